@@ -1,7 +1,7 @@
 // Layout bytes: idVendor, product base, bcdDevice, the number of interfaces, a unit count for each, a place for each unit.
 // A layout that breaks a rule is refused by inspection, and fitted as a stick with no interface.
 ghost use mathlib.Core.Path.{_≡_};
-ghost use mathlib.Core.Bool.{cond};
+ghost use mathlib.Core.Bool.{true, cond};
 ghost use Prim.Native.Nat.{_≤_, _+_, _*_};
 ghost use lib.ListN.{length, take};
 ghost use Rattle.std.specs.Options.{Cases as BySome};
@@ -138,7 +138,8 @@ const NO_LAYOUT: Layout = Layout {
 impl Layout {
     // Fits a layout, whatever the bytes: against a rule there is no interface, and zeros.
     pub fn fit(bytes: &[u8], blocks: u32) -> Layout
-        ensures { λ r. ⌜ layout-of r ≡ fitted-layout (now (bytes .entry)) blocks ⌝ }
+        ensures layout { λ r. ⌜ layout-of r ≡ fitted-layout (now (bytes .entry)) blocks ⌝ }
+        ensures placed { λ r. ⌜ sound place-start place-count 0 blocks (layout-of r .places) ≡ true ⌝ }
     {
         match read_layout(bytes, blocks) {
             Some(layout) => layout,
