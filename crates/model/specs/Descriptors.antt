@@ -10,15 +10,15 @@ use Rattle.model.specs.declared.ids.Ids.{Ids}
 use Rattle.model.specs.declared.ids.Ids.the-variants.{Negotiable, ScsiBbb}
 use Rattle.model.specs.declared.ids.Interface.{Interface}
 
--- 1 for Negotiable IDs, else 0
-abbrev pub ids-bit : Ids → ℕ
-ids-bit Negotiable = 1
-ids-bit ScsiBbb = 0
+-- a weight, counted for Negotiable IDs only
+abbrev pub weighed : Ids → ℕ → ℕ
+weighed Negotiable w = w
+weighed ScsiBbb w = 0
 
 -- 2 to the power i for each Negotiable interface i, summed up from interface i on
 abbrev pub product-bits : ℕ → List Interface → ℕ
 product-bits i [] = 0
-product-bits i (x ∷ xs) = ids-bit (x .ids) * 2 ^ i + product-bits (i + 1) xs
+product-bits i (x ∷ xs) = weighed (x .ids) (2 ^ i) + product-bits (i + 1) xs
 
 -- bLength, type, bcdUSB 2.00, class, subclass and protocol given by the interfaces, 64 bytes to a control packet
 abbrev pub device-head : List ℕ
