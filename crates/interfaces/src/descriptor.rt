@@ -1,14 +1,21 @@
 // The device descriptor and the bundle: the configuration descriptor with all its interfaces and endpoints.
 ghost use mathlib.Core.Path.{_≡_};
-ghost use Prim.Native.Nat.{_≤_, _<_};
-ghost use lib.ListN.{length};
-ghost use Rattle.model.specs.Descriptors.{weighed, product-bits, device-descriptor, configuration, interface-piece};
+ghost use mathlib.Core.List.{_++_};
+ghost use Prim.Native.Nat.{_+_, _*_, _≤_, _<_};
+ghost use lib.ListN.{length, take, drop};
+ghost use Rattle.model.specs.Descriptors.{weighed, product-bits, device-descriptor, configuration, interface-piece, interface-pieces, bundle};
 ghost use Rattle.layout.specs.Tables.{layout-of};
-ghost use Rattle.interfaces.specs.Tables.{interfaces-of};
+ghost use Rattle.interfaces.specs.Tables.{bundle-of, interfaces-of};
+use crate::table::Bundle;
 use crate::table::Interfaces;
+use crate::table::LONGEST_BUNDLE;
 use layout::table::Layout;
 use model::ids::Ids;
 use model::ids::Interface;
+
+// Bytes of the configuration descriptor itself, and of each interface behind it.
+const CONFIGURATION_BYTES: usize = 9;
+const PIECE_BYTES: usize = 26;
 
 // A weight, counted for Negotiable IDs only.
 fn weighed(ids: Ids, weight: u16) -> u16
@@ -74,4 +81,48 @@ fn interface_piece(number: u8, ids: Ids) -> [u8; 26]
         0x07, 0x05, bulk_in, 0x02, 0x40, 0x00, 0x00, // endpoint
         0x07, 0x05, bulk_out, 0x02, 0x40, 0x00, 0x00, // endpoint
     ]
+}
+
+// Writes the interfaces' pieces one behind the other, behind the first 9 bytes.
+fn write_pieces(out: &mut [u8], interfaces: &[Interface])
+    requires { ⌜ length (now interfaces) ≤ 4 ⌝ ∗ ⌜ 9 + 26 * length (now interfaces) ≤ length (now out) ⌝ }
+    ensures { λ _. ⌜ now (out .exit) ≡ (take 9 (now (out .entry)) ++ interface-pieces 0 (now (interfaces .entry))) ++ drop (9 + 26 * length (now (interfaces .entry))) (now (out .entry)) ⌝ }
+{
+    for (i, interface) in interfaces.iter().enumerate() {
+        let at = CONFIGURATION_BYTES + PIECE_BYTES * i;
+        out[at..at + PIECE_BYTES].copy_from_slice(&interface_piece(i as u8, interface.ids));
+    }
+}
+
+// Writes a whole bundle, and says how long it is.
+fn write_bundle(out: &mut [u8], interfaces: &[Interface]) -> usize
+    requires { ⌜ length (now interfaces) ≤ 4 ⌝ ∗ ⌜ length (now out) ≡ 113 ⌝ }
+    ensures front { λ r. ⌜ take r (now (out .exit)) ≡ bundle (now (interfaces .entry)) ⌝ }
+    ensures bound { λ r. ⌜ r ≤ 113 ⌝ }
+{
+    let count = interfaces.len();
+    let len = CONFIGURATION_BYTES + PIECE_BYTES * count;
+    out[0..CONFIGURATION_BYTES].copy_from_slice(&configuration(len as u16, count as u8));
+    write_pieces(out, interfaces);
+    len
+}
+
+impl Interfaces {
+    // The bundle of these interfaces.
+    pub fn bundle(&self) -> Bundle
+        ensures { λ r. ⌜ bundle-of r ≡ bundle (interfaces-of (now (self .entry))) ⌝ }
+    {
+        let mut bytes = [0; LONGEST_BUNDLE];
+        let len = write_bundle(&mut bytes, &self.list[0..self.count]);
+        Bundle { bytes, len }
+    }
+}
+
+impl Bundle {
+    // The bundle's bytes.
+    pub fn as_slice(&self) -> &[u8]
+        ensures { λ r. ⌜ now r ≡ bundle-of (now (self .entry)) ⌝ }
+    {
+        &self.bytes[0..self.len]
+    }
 }
