@@ -6,3 +6,5 @@ pub mod Identities
 pub mod Layouts
 pub mod Requests
 pub mod Descriptors
+pub mod Units
+pub mod Sticks

@@ -2,5 +2,7 @@
 // It knows of no other crate; what a reader has to believe stands in its specs/.
 pub mod ids;
 pub mod layout;
+pub mod lock;
 pub mod refusal;
 pub mod request;
+pub mod sense;

@@ -1,0 +1,9 @@
+// How a unit stands.
+// A recovering unit is Locked; its work steps are counted as they are done.
+#[derive(Clone, Copy, PartialEq, Eq, Debug)]
+pub enum LockState {
+    Impersonal,
+    Locked,
+    Unlocked,
+    Recovering { steps_done: u16 },
+}
