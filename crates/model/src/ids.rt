@@ -3,7 +3,7 @@ ghost use mathlib.Core.Path.{_≡_};
 ghost use Rattle.model.specs.Identities.{ids-subclass};
 
 // Class, subclass and protocol are 08 07 50 (Negotiable) or 08 06 50 (SCSI over Bulk-Only Transport).
-#[derive(Clone, Copy, PartialEq, Eq, Debug)]
+#[derive(Clone, Copy)]
 pub enum Ids {
     Negotiable,
     ScsiBbb,

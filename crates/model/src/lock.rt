@@ -1,6 +1,6 @@
 // How a unit stands.
 // A recovering unit is Locked; its work steps are counted as they are done.
-#[derive(Clone, Copy, PartialEq, Eq, Debug)]
+#[derive(Clone, Copy)]
 pub enum LockState {
     Impersonal,
     Locked,

@@ -1,7 +1,7 @@
 // What a control transfer asks for, as its setup bytes say.
 
 // The Puts of the locking protocol, told by the low byte of wValue.
-#[derive(Clone, Copy, PartialEq, Eq, Debug)]
+#[derive(Clone, Copy)]
 pub enum Put {
     StorePassphrase,
     MatchPassphrase,
@@ -12,7 +12,7 @@ pub enum Put {
     ChangeInterfaceAccess,
 }
 
-#[derive(Clone, Copy, PartialEq, Eq, Debug)]
+#[derive(Clone, Copy)]
 pub enum Request {
     DeviceDescriptor,
     // the configuration descriptor with all that belongs to it
@@ -24,7 +24,7 @@ pub enum Request {
 }
 
 // A listed request with the length that its setup gives.
-#[derive(Clone, Copy, PartialEq, Eq, Debug)]
+#[derive(Clone, Copy)]
 pub struct Asked {
     pub request: Request,
     pub length: u16,

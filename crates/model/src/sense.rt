@@ -1,5 +1,5 @@
 // Why the last command for a unit failed, as REQUEST SENSE tells it.
-#[derive(Clone, Copy, PartialEq, Eq, Debug)]
+#[derive(Clone, Copy)]
 pub enum Sense {
     None,
     // a recovering unit is not ready
