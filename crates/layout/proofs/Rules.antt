@@ -2,12 +2,13 @@
 use mathlib.Core.Path.{_≡_, refl, sym, ap, _∙_}
 use mathlib.Core.List.{List}
 use mathlib.Core.Bool.{Bool, true, false, cond, _&&_}
-use Prim.Native.Nat.{ℕ, _+_, _*_, _%_}
+use Prim.Native.Nat.{ℕ, _+_, _*_, _%_, _≤_, min}
 use native.Mathlib.Omega.{arith}
 use lib.Dec.{eqb}
 use lib.ListN.{length, take, drop}
 use Rattle.std.specs.declared.option.Option.{Option}
 use Rattle.std.specs.declared.option.Option.the-variants.{Some, None}
+use Rattle.std.proofs.shelf.Lists.{length-take}
 use Rattle.std.proofs.shelf.Tests.{and-left, and-right, and-from, cond-true, cond-false}
 use Rattle.model.specs.Bytes.{byte, le16, between}
 use Rattle.model.specs.Extents.{sound}
@@ -28,6 +29,10 @@ none-counted true n e = let z : _≡_ {A = ℕ} 0 1 = cc in absurd (omega arith)
 pub some-counted : (b : Bool) (n m : ℕ) → Some m ≡ cond b (Some n) None → (b ≡ true) × (m ≡ n)
 some-counted true n m e = (refl, cc)
 some-counted false n m e = let z : _≡_ {A = ℕ} 0 1 = cc in absurd (omega arith)
+
+-- a list with a front of k elements has k
+pub front-within : (k : ℕ) (xs ys : List ℕ) → take k xs ≡ ys → length ys ≡ k → k ≤ length xs
+front-within k xs ys front l = let e : length (take k xs) ≡ min k (length xs) = length-take k xs in let f : length (take k xs) ≡ length ys = ap length front in omega arith
 
 pub same-layout : (v v′ b b′ r r′ : ℕ) (cs cs′ : List ℕ) (ps ps′ : List Place) → v ≡ v′ → b ≡ b′ → r ≡ r′ → cs ≡ cs′ → ps ≡ ps′ → layout v b r cs ps ≡ layout v′ b′ r′ cs′ ps′
 same-layout v v′ b b′ r r′ cs cs′ ps ps′ p q s t u = cc

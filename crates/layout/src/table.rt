@@ -2,7 +2,7 @@
 // In a file of its own, so that definitions may name it.
 ghost use mathlib.Core.Path.{_≡_};
 ghost use Prim.Native.Nat.{_≤_, _%_};
-ghost use lib.ListN.{take};
+ghost use lib.ListN.{length, take};
 ghost use Rattle.model.specs.Layouts.{sum};
 use model::layout::Place;
 
@@ -19,6 +19,7 @@ pub struct Layout {
     pub unit_count: usize,
     pub places: [Place; 16],
     ghost few_interfaces: { «interface_count» ≤ 4 },
+    ghost each_counted: { «interface_count» ≤ length «unit_counts» },
     ghost few_units: { «unit_count» ≤ 16 },
     ghost all_units: { «unit_count» ≡ sum (take «interface_count» «unit_counts») },
     ghost aligned: { «product_base» % 16 ≡ 0 },

@@ -12,7 +12,7 @@ use Rattle.std.proofs.shelf.Lists.{drop-drop, take-rest}
 use Rattle.model.specs.Bytes.{le16, byte, between}
 use Rattle.model.specs.Extents.{sound}
 use Rattle.model.specs.Layouts.{sum, all-between, pairs, place-start, place-count, said-layout}
-use Rattle.layout.proofs.Rules.{counts-in, pairs-in, none-counted, some-counted, bad-counts, bad-base, bad-length, bad-places, all-rules, same-layout}
+use Rattle.layout.proofs.Rules.{counts-in, pairs-in, none-counted, some-counted, bad-counts, bad-base, bad-length, bad-places, all-rules, same-layout, front-within}
 use Rattle.layout.proofs.read.read_layout.Needs as need
 use Rattle.layout.proofs.read.read_layout.Needs.{then-product-base-ne0·by·then-product-base-ne0, then-product-base-ne0·by·else-product-base-ne0·then-pairs-unit-count}
 
@@ -53,7 +53,7 @@ ghost-result c =
     let told = some-counted (all-between 1 4 counts) (sum counts) n (c .in-Continue-unit-count .ensures tt .value) in
     let table : take (byte (c .args .bytes .now) 6) (c .count-table-unit-counts .result) ≡ counts =
     ap (λ k. take k (c .count-table-unit-counts .result)) (sym (c .split-at .ensures .front-len)) ∙ c .count-table-unit-counts .ensures in
-    (search needs, (c .in-Continue-unit-count .ensures tt .bound, (told .1 ∙ ap sum (sym table), (search needs, tt))))
+    (search needs, (front-within (byte (c .args .bytes .now) 6) (c .count-table-unit-counts .result) counts table (c .split-at .ensures .front-len), (c .in-Continue-unit-count .ensures tt .bound, (told .1 ∙ ap sum (sym table), (search needs, tt)))))
 
 pub returns : need.returns
 returns c =

@@ -1,0 +1,4 @@
+pub mod Searches
+pub mod Calls
+pub mod Pages
+pub mod Mapped
