@@ -9,18 +9,25 @@ use model::request::Request;
 
 // bmRequestType: standard, to the device, answered; and of the class, to an interface, answered or arriving.
 const STANDARD_IN: u8 = 0x80;
+
 const CLASS_IN: u8 = 0xA1;
+
 const CLASS_OUT: u8 = 0x21;
 
 // bRequest
 const GET_DESCRIPTOR: u8 = 0x06;
+
 const PUT: u8 = 0xFC;
+
 const GET_LOCK_IN: u8 = 0xFD;
+
 const GET_HIGHEST_UNIT: u8 = 0xFE;
+
 const CLEAR_JAM: u8 = 0xFF;
 
 // wValue of the two descriptors
 const DEVICE: u16 = 0x0100;
+
 const CONFIGURATION: u16 = 0x0200;
 
 fn put_told(code: u8) -> Option<Put>
@@ -52,14 +59,26 @@ fn descriptor_asked(value: u16) -> Option<Request>
 pub fn read_setup(setup: &[u8]) -> Option<Asked>
     ensures { λ r. ⌜ r ≡ requested (now (setup .entry)) ⌝ }
 {
-    let [kind, code, value_low, value_high, index_low, index_high, length_low, length_high] = setup else {
+    let [
+        kind,
+        code,
+        value_low,
+        value_high,
+        index_low,
+        index_high,
+        length_low,
+        length_high,
+    ] = setup
+    else {
         return None;
     };
     let value = u16::from_le_bytes([*value_low, *value_high]);
     let interface = *index_low;
     let unit = *value_high;
     let request = match (*kind, *code) {
-        (STANDARD_IN, GET_DESCRIPTOR) if interface == 0 && *index_high == 0 => descriptor_asked(value)?,
+        (STANDARD_IN, GET_DESCRIPTOR) if interface == 0 && *index_high == 0 => descriptor_asked(
+            value,
+        )?,
         (CLASS_IN, GET_LOCK_IN) if *value_low == 0 => Request::LockData { interface, unit },
         (CLASS_IN, GET_HIGHEST_UNIT) if value == 0 => Request::HighestUnit { interface },
         (CLASS_OUT, CLEAR_JAM) if value == 0 => Request::ClearJam { interface },

@@ -15,6 +15,7 @@ use model::ids::Interface;
 
 // Bytes of the configuration descriptor itself, and of each interface behind it.
 const CONFIGURATION_BYTES: usize = 9;
+
 const PIECE_BYTES: usize = 26;
 
 // A weight, counted for Negotiable IDs only.
@@ -56,7 +57,24 @@ pub fn device_descriptor(layout: &Layout, interfaces: &Interfaces) -> [u8; 18]
     let [p0, p1] = product.to_le_bytes();
     let [r0, r1] = layout.release.to_le_bytes();
     [
-        h0, h1, h2, h3, h4, h5, h6, h7, v0, v1, p0, p1, r0, r1, 0x00, 0x00, 0x01, 0x01,
+        h0,
+        h1,
+        h2,
+        h3,
+        h4,
+        h5,
+        h6,
+        h7,
+        v0,
+        v1,
+        p0,
+        p1,
+        r0,
+        r1,
+        0x00,
+        0x00,
+        0x01,
+        0x01,
     ]
 }
 
@@ -76,10 +94,32 @@ fn interface_piece(number: u8, ids: Ids) -> [u8; 26]
     let bulk_in = 0x81 + number;
     let bulk_out = 0x01 + number;
     [
-        0x09, 0x04, number, 0x00, 0x02, 0x08, ids.subclass(), 0x50, 0x00, // interface
-        0x03, 0x25, 0x00, // lockable
-        0x07, 0x05, bulk_in, 0x02, 0x40, 0x00, 0x00, // endpoint
-        0x07, 0x05, bulk_out, 0x02, 0x40, 0x00, 0x00, // endpoint
+        0x09,
+        0x04,
+        number,
+        0x00,
+        0x02,
+        0x08,
+        ids.subclass(),
+        0x50,
+        0x00, // interface
+        0x03,
+        0x25,
+        0x00, // lockable
+        0x07,
+        0x05,
+        bulk_in,
+        0x02,
+        0x40,
+        0x00,
+        0x00, // endpoint
+        0x07,
+        0x05,
+        bulk_out,
+        0x02,
+        0x40,
+        0x00,
+        0x00, // endpoint
     ]
 }
 

@@ -21,6 +21,7 @@ use model::layout::Place;
 use model::refusal::Refusal;
 
 const PLACE_BYTES: usize = 8;
+
 const NO_PLACE: Place = Place { start: 0, count: 0 };
 
 // One place: its first block and its number of blocks, 4 bytes each.

@@ -7,6 +7,7 @@ ghost use Rattle.model.specs.Layouts.{sum};
 use model::layout::Place;
 
 pub const MOST_INTERFACES: usize = 4;
+
 pub const MOST_UNITS: usize = 16;
 
 #[derive(Clone, Copy)]

@@ -7,6 +7,7 @@ use model::lock::LockState;
 use model::sense::Sense;
 
 pub const PHRASE_BYTES: usize = 50;
+
 pub const HINT_BYTES: usize = 100;
 
 #[derive(Clone, Copy)]

@@ -14,7 +14,9 @@ impl Rows {
     pub fn new() -> Rows
         ensures { λ r. ⌜ records-of r ≡ replicate 16 new-unit ⌝ }
     {
-        Rows { rows: [Row::new(); 16] }
+        Rows {
+            rows: [Row::new(); 16],
+        }
     }
 }
 

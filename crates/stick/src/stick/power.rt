@@ -28,7 +28,11 @@ use units::table::is_any_personal;
 fn interface_up(rows: &[Row]) -> Interface
     ensures { λ r. ⌜ r ≡ interface (cond (any-phrase (map record-of (now (rows .entry)))) Negotiable ScsiBbb) false ⌝ }
 {
-    let ids = if is_any_personal(rows) { Ids::Negotiable } else { Ids::ScsiBbb };
+    let ids = if is_any_personal(rows) {
+        Ids::Negotiable
+    } else {
+        Ids::ScsiBbb
+    };
     Interface { ids, jammed: false }
 }
 

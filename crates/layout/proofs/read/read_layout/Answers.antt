@@ -30,10 +30,11 @@ returns-then-product-base-ne0 c =
     let told = some-counted (all-between 1 4 (c .split-at .result .0 .now)) (sum (c .split-at .result .0 .now)) (c .in-Continue-unit-count .unit-count) (c .in-Continue-unit-count .ensures tt .value) in
     let total : c .in-Continue-unit-count .unit-count ≡ sum (counts-in bs) = told .1 ∙ ap sum cs in
     elim (c .then-product-base-ne0 .came) [
-    then-product-base-ne0·by·then-product-base-ne0 w ↦
-      (let no : le16 bs 2 % 16 ≡ 0 → ⊥ = search needs in bad-base bs (c .args .blocks) (ne-eqb _ _ no))
-    | then-product-base-ne0·by·else-product-base-ne0·then-pairs-unit-count w ↦
-      (let off : length bs ≡ 7 + byte bs 6 + 8 * sum (counts-in bs) → ⊥ = λ e. w .if-pairs-unit-count .taken (omega arith) in bad-length bs (c .args .blocks) (ne-eqb _ _ off)) ]
+      | then-product-base-ne0·by·then-product-base-ne0 w ↦
+          (let no : le16 bs 2 % 16 ≡ 0 → ⊥ = search needs in bad-base bs (c .args .blocks) (ne-eqb _ _ no))
+      | then-product-base-ne0·by·else-product-base-ne0·then-pairs-unit-count w ↦
+          (let off : length bs ≡ 7 + byte bs 6 + 8 * sum (counts-in bs) → ⊥ = λ e. w .if-pairs-unit-count .taken (omega arith) in bad-length bs (c .args .blocks) (ne-eqb _ _ off))
+    ]
 
 pub returns-then-not-are-placed : need.returns-then-not-are-placed
 returns-then-not-are-placed c =

@@ -11,9 +11,10 @@ use Rattle.layout.proofs.read.read_places.Needs as need
 
 pub loop-i-again : need.loop-i-again
 loop-i-again c =
-    let room : c .loop-i .i < length (c .loop-i .places) = omega arith in
-    (pairs-more (c .loop-i .places) (c .loop-i .i) (c .args .bytes .now) (c .place-at .result) room (c .place-at .ensures) (c .loop-i .inv .0),
-    length-set (c .loop-i .places) (c .loop-i .i) (c .place-at .result) ∙ c .loop-i .inv .1)
+    let room : c .loop-i .i < length (c .loop-i .places) = omega arith in (
+      pairs-more (c .loop-i .places) (c .loop-i .i) (c .args .bytes .now) (c .place-at .result) room (c .place-at .ensures) (c .loop-i .inv .0),
+      length-set (c .loop-i .places) (c .loop-i .i) (c .place-at .result) ∙ c .loop-i .inv .1,
+    )
 
 pub returns : need.returns
 returns c =
