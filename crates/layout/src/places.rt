@@ -5,7 +5,7 @@ ghost use Rattle.model.specs.Layouts.{place-start, place-count};
 ghost use Rattle.layout.specs.Tables.{layout-of};
 use crate::table::Layout;
 use extents::find;
-use extents::kinds::PlaceExtent;
+use extents::kinds::place::PlaceExtent;
 
 impl Layout {
     // The unit that holds a block, by its number in the whole stick, or none.

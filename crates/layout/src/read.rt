@@ -16,7 +16,7 @@ use crate::table::Layout;
 use crate::table::MOST_INTERFACES;
 use crate::table::MOST_UNITS;
 use extents::is_sound;
-use extents::kinds::PlaceExtent;
+use extents::kinds::place::PlaceExtent;
 use model::layout::Place;
 use model::refusal::Refusal;
 
