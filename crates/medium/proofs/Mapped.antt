@@ -19,7 +19,7 @@ use Rattle.model.specs.declared.refusal.Fault.{Fault}
 use Rattle.model.specs.declared.refusal.Fault.the-variants.{Outside, Bad}
 use Rattle.model.specs.Blocks.{Block, bad, good, block-answer, Whole, answer, filled, written, page, is-bad, block-on, mapped-blocks}
 use Rattle.medium.specs.Laws.{Good-at}
-use Rattle.medium.proofs.Calls.{way, good-not-bad, answer-outside, answer-at, good-from, read-good, write-good}
+use Rattle.medium.proofs.Calls.{way, good-not-bad, answer-outside, answer-at, good-from, read-good, write-good, refused-write}
 use Rattle.medium.proofs.Pages.{length-part, page-same, page-other}
 
 whole-on : (mem : List ℕ) (runs : List BadRun) (b p : ℕ) → 512 * p + 512 ≤ length mem → Whole (block-on mem runs b p)
@@ -87,6 +87,10 @@ module _ (mem : List ℕ) (runs : List BadRun) (at : ℕ → ℕ) (n : ℕ) wher
   read-mapped b buf ok =
       let a = accepted b (length buf) ok in
       sym (read-good (mapped-blocks mem runs at n) b (page mem (at b)) buf (good-at b (a .within) (a .fine)) (a .size) .1)
+
+  pub refused-mapped : (b : ℕ) (bs : List ℕ) (f : Fault) → Err f ≡ answer (mapped-blocks mem runs at n) b (length bs)
+      → mapped-blocks mem runs at n ≡ written (mapped-blocks mem runs at n) b bs
+  refused-mapped b bs f e = sym (refused-write (mapped-blocks mem runs at n) b bs f (sym e))
 
   written-mapped : (b : ℕ) (bs : List ℕ) → Ok tt ≡ answer (mapped-blocks mem runs at n) b (length bs)
       → set (mapped-blocks mem runs at n) b (good bs) ≡ written (mapped-blocks mem runs at n) b bs

@@ -5,11 +5,10 @@ ghost use mathlib.Core.Path.{_≡_};
 ghost use Prim.Native.Nat.{ℕ, _<_};
 ghost use Rattle.std.specs.Vec.{made};
 ghost use Rattle.model.specs.Blocks.{answer, mapped-blocks};
+use crate::PAGE;
 use crate::bad_runs::is_bad;
 use model::layout::BadRun;
 use model::refusal::Fault;
-
-const PAGE: usize = 512;
 
 // The answer to a call for a block with `length` bytes, wherever on whatever memory the blocks lie.
 pub fn admit(runs: &[BadRun], count: u32, block: u32, length: usize) -> Result<(), Fault>

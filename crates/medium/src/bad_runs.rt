@@ -3,7 +3,7 @@
 ghost use mathlib.Core.Path.{_≡_};
 ghost use Rattle.model.specs.Blocks.{is-bad};
 use extents::find;
-use extents::kinds::BadRunExtent;
+use extents::kinds::bad_run::BadRunExtent;
 use model::layout::BadRun;
 
 pub fn is_bad(runs: &[BadRun], block: u32) -> bool

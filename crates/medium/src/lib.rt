@@ -13,6 +13,12 @@ ghost use Rattle.std.specs.shelf.Lists.{All};
 ghost use Rattle.model.specs.Blocks.{Block, Whole, answer, filled, written};
 use model::refusal::Fault;
 
+// The bytes of a block, and of a page of memory.
+pub const PAGE: usize = 512;
+
+// The blocks that a medium may have.
+pub const MOST_BLOCKS: usize = 1024;
+
 // The blocks of a stick, wherever their bytes lie.
 pub trait Medium {
     ghost meaning: { Self → List Block };

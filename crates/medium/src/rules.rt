@@ -6,14 +6,12 @@ ghost use Prim.Native.Nat.{_-_, _/_};
 ghost use Rattle.std.specs.declared.result.Result.the-variants.{Ok, Err};
 ghost use Rattle.model.specs.Blocks.{medium-rules};
 ghost use Rattle.model.specs.declared.refusal.Refusal.the-variants.{Medium as BadMedium};
+use crate::MOST_BLOCKS;
+use crate::PAGE;
 use extents::is_sound;
-use extents::kinds::BadRunExtent;
+use extents::kinds::bad_run::BadRunExtent;
 use model::layout::BadRun;
 use model::refusal::Refusal;
-
-const PAGE: usize = 512;
-
-const MOST_BLOCKS: usize = 1024;
 
 const MOST_RUNS: usize = 8;
 

@@ -3,11 +3,11 @@ use mathlib.Core.Path.{_≡_, refl, sym, ap, _∙_}
 use mathlib.Core.List.{List, _++_}
 use mathlib.Core.Bool.{true, false, cond}
 use mathlib.Core.Logic.{⊎-elim}
-use Prim.Native.Nat.{ℕ, min, _≤_, _<_}
+use Prim.Native.Nat.{ℕ, min, _+_, _≤_, _<_}
 use native.Mathlib.Omega.{arith}
 use lib.Dec.{ltb}
 use lib.ListN.{length, take, drop}
-use Rattle.std.proofs.shelf.Lists.{length-take, take-all}
+use Rattle.std.proofs.shelf.Lists.{length-take, length-append, take-all}
 use Rattle.std.proofs.shelf.Tests.{cases-lt, lt-ltb, le-ltb, cond-true, cond-false}
 use Rattle.std.specs.declared.result.Result.the-variants.{Ok, Err}
 use Rattle.model.specs.declared.refusal.Refusal.the-variants.{ShortBuffer}
@@ -35,3 +35,10 @@ module _ (whole : List ℕ) (n k : ℕ) (buf : List ℕ) (size : k ≡ min n (le
       ap (λ p. served (Ok k) (p ++ drop k buf)) same
       ∙ ap (λ j. served (Ok j) (bytes ++ drop j buf)) (sym long)
       ∙ sym (cond-false (ltb (length buf) (length bytes)) _ _ (le-ltb (length buf) (length bytes) (omega (arith, long))))
+
+-- what was copied to the front lies within the buffer
+pub front-within : (k w : ℕ) (part post buf : List ℕ) → w ≡ k → k ≤ length buf → length part ≡ length (take w buf) → k ≤ length (part ++ post)
+front-within k w part post buf e le l =
+    let long : length (take w buf) ≡ min w (length buf) = length-take w buf in
+    let whole : length (part ++ post) ≡ length part + length post = length-append part post in
+    omega arith

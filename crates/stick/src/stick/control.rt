@@ -1,7 +1,9 @@
 // Control transfers of a running stick: the descriptors, so far.
 // A reading's answer goes to the front of the handed buffer; what arrives is zeroed on every way out.
 ghost use mathlib.Core.Path.{_≡_};
+ghost use Prim.Native.Nat.{_≤_};
 ghost use lib.ListN.{length, replicate};
+ghost use Rattle.std.specs.Vec.{made};
 ghost use Rattle.std.specs.declared.result.Result.the-variants.{Ok, Err};
 ghost use Rattle.model.specs.Requests.{requested};
 ghost use Rattle.layout.specs.Tables.{layout-of};
@@ -31,7 +33,8 @@ impl Drop for Wipe<'_> {
 
 // Answers the first bytes of `whole`, at most `wanted`, at the buffer's front, or refuses where they do not fit.
 fn answer(whole: &[u8], wanted: u16, buffer: &mut [u8]) -> Result<usize, Declined>
-    ensures { λ r. ⌜ served r (now (buffer .exit)) ≡ answered (now (whole .entry)) wanted (now (buffer .entry)) ⌝ }
+    ensures outcome { λ r. ⌜ served r (now (buffer .exit)) ≡ answered (now (whole .entry)) wanted (now (buffer .entry)) ⌝ }
+    ensures bound { λ r. ⌜ made r (λ n. n ≤ length (now (buffer .exit))) ⌝ }
 {
     let n = whole.len().min(wanted as usize);
     if buffer.len() < n {
@@ -54,7 +57,8 @@ impl<M: Medium> Running<M> {
     }
 
     fn read(&self, setup: &[u8], buffer: &mut [u8]) -> Result<usize, Declined>
-        ensures { λ r. ⌜ served r (now (buffer .exit)) ≡ reading (layout-of (now (self .entry) .layout)) (stick-of meaning (now (self .entry))) (requested (now (setup .entry))) (now (buffer .entry)) ⌝ }
+        ensures outcome { λ r. ⌜ served r (now (buffer .exit)) ≡ reading (layout-of (now (self .entry) .layout)) (stick-of meaning (now (self .entry))) (requested (now (setup .entry))) (now (buffer .entry)) ⌝ }
+        ensures bound { λ r. ⌜ made r (λ n. n ≤ length (now (buffer .exit))) ⌝ }
     {
         let Some(asked) = read_setup(setup) else {
             return Err(Declined::Refused(Refusal::Unlisted));
@@ -71,7 +75,8 @@ impl<M: Medium> Running<M> {
     }
 
     fn take(&self, setup: &[u8], buffer: &mut [u8]) -> Result<usize, Declined>
-        ensures { λ r. ⌜ served r (now (buffer .exit)) ≡ (let zeros = replicate (length (now (buffer .entry))) 0 in if-present (presence (stick-of meaning (now (self .entry)) .phase)) zeros (served (arriving (requested (now (setup .entry)))) zeros)) ⌝ }
+        ensures outcome { λ r. ⌜ served r (now (buffer .exit)) ≡ (let zeros = replicate (length (now (buffer .entry))) 0 in if-present (presence (stick-of meaning (now (self .entry)) .phase)) zeros (served (arriving (requested (now (setup .entry)))) zeros)) ⌝ }
+        ensures bound { λ r. ⌜ made r (λ n. n ≤ length (now (buffer .exit))) ⌝ }
     {
         let _arrived = Wipe(buffer);
         self.is_present()?;
@@ -83,7 +88,8 @@ impl<M: Medium> Running<M> {
 
     // A control transfer with its setup bytes and one buffer: how many bytes are answered at the buffer's front.
     pub fn control(&self, setup: &[u8], buffer: &mut [u8]) -> Result<usize, Declined>
-        ensures { λ r. ⌜ served r (now (buffer .exit)) ≡ controlled (layout-of (now (self .entry) .layout)) (stick-of meaning (now (self .entry))) (now (setup .entry)) (now (buffer .entry)) ⌝ }
+        ensures outcome { λ r. ⌜ served r (now (buffer .exit)) ≡ controlled (layout-of (now (self .entry) .layout)) (stick-of meaning (now (self .entry))) (now (setup .entry)) (now (buffer .entry)) ⌝ }
+        ensures bound { λ r. ⌜ made r (λ n. n ≤ length (now (buffer .exit))) ⌝ }
     {
         if !is_reading(setup) {
             return self.take(setup, buffer);

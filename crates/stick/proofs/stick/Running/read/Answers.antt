@@ -13,7 +13,10 @@ returns-in-DeviceDescriptor g c =
     let s = stick-of (g .M·Medium .meaning) (c .args .self .now) in
     let buf = c .args .buffer .now in
     let n = c .in-Some .asked .length in
-    c .answer .ensures
+    record {
+      outcome = c .answer .ensures .outcome
     ∙ ap (λ w. answered w n buf) (c .device-descriptor .ensures)
     ∙ ap (λ (r : Request). read-request lay s r n buf) (sym (c .in-DeviceDescriptor .is))
-    ∙ ap (λ (o : Option Asked). reading lay s o buf) (c .in-Some .ensures tt)
+    ∙ ap (λ (o : Option Asked). reading lay s o buf) (c .in-Some .ensures tt);
+      bound = c .answer .ensures .bound;
+    }
