@@ -1,7 +1,7 @@
 -- The ways out of a call, over any blocks, and the laws that follow.
 use mathlib.Core.Path.{_≡_, refl, sym, ap, subst, _∙_}
 use mathlib.Core.List.{List}
-use mathlib.Core.Bool.{Bool, true, false, cond, _&&_}
+use mathlib.Core.Bool.{true, false, cond, _&&_}
 use mathlib.Core.Logic.{_⊎_, inl, inr, ⊎-elim}
 use Prim.Native.Nat.{ℕ, _≤_, _<_}
 use native.Mathlib.Omega.{arith}
@@ -16,7 +16,7 @@ use Rattle.std.proofs.shelf.Tests.{cases-eq, cases-lt}
 use Rattle.std.proofs.shelf.Ways.{tells}
 use Rattle.model.specs.declared.refusal.Fault.{Fault}
 use Rattle.model.specs.declared.refusal.Fault.the-variants.{Outside, Bad}
-use Rattle.model.specs.Blocks.{Block, bad, good, reaches, block-answer, bytes-or, replaced, Whole, answer, filled, written}
+use Rattle.model.specs.Blocks.{Block, bad, good, reaches, block-answer, bytes-or, Whole, answer, filled, written}
 use Rattle.medium.specs.Laws.{Exactly, Bad-at, Good-at, MediumLaws}
 
 -- a call with n bytes for block b: past the end or not 512 bytes; a bad block; a good one

@@ -1,11 +1,11 @@
 -- The search finds an element exactly where one holds the position.
-use mathlib.Core.Path.{_≡_, refl, sym, ap, _∙_}
+use mathlib.Core.Path.{_≡_, refl}
 use mathlib.Core.List.{List, [], _∷_}
 use mathlib.Core.Bool.{Bool, true, false, cond, _||_}
 use Prim.Native.Nat.{ℕ, _+_}
 use Rattle.std.specs.Options.{isSome}
 use Rattle.std.specs.declared.option.Option.{Option}
-use Rattle.std.specs.declared.option.Option.the-variants.{Some, None}
+use Rattle.std.specs.declared.option.Option.the-variants.{Some}
 use Rattle.model.specs.Extents.{holds, any-holds, found}
 
 found-here : (t u : Bool) (i : ℕ) (rest : Option ℕ) → isSome rest ≡ u → isSome (cond t (Some i) rest) ≡ (t || u)

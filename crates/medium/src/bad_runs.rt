@@ -6,6 +6,7 @@ use extents::find;
 use extents::kinds::bad_run::BadRunExtent;
 use model::layout::BadRun;
 
+// Whether a bad run holds the block.
 pub fn is_bad(runs: &[BadRun], block: u32) -> bool
     ensures { λ r. ⌜ r ≡ is-bad (now (runs .entry)) block ⌝ }
 {

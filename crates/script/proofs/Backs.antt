@@ -1,16 +1,11 @@
 -- The text of bytes says those bytes.
-use mathlib.Core.Path.{_≡_, refl, sym, ap, _∙_}
-use mathlib.Core.List.{List, [], _∷_, _++_}
-use mathlib.Core.Bool.{true, false, cond, _&&_}
-use Prim.Native.Nat.{ℕ, _+_, _-_, _*_, _/_, _%_, _<_}
+use mathlib.Core.Path.{_≡_, refl, ap, _∙_}
+use mathlib.Core.List.{[], _∷_}
+use Prim.Native.Nat.{ℕ, _+_, _*_, _/_, _%_, _<_}
 use native.Mathlib.Omega.{arith}
-use lib.Dec.{leb, ltb}
-use Rattle.std.specs.shelf.Lists.{All}
-use Rattle.std.specs.declared.option.Option.the-variants.{Some, None}
-use Rattle.std.specs.declared.result.Result.the-variants.{Ok, Err}
-use Rattle.std.proofs.shelf.Bits.{div-below, mod-below, div-add-mod'}
+use Rattle.std.specs.declared.option.Option.the-variants.{Some}
 use Rattle.std.proofs.shelf.Ways.{tells}
-use Rattle.script.specs.Hexadecimal.{digit-value, digit-char, byte-by, byte-value, with-byte, hex-bytes, hex-text}
+use Rattle.script.specs.Hexadecimal.{digit-value, digit-char, byte-value, with-byte, hex-bytes, hex-text}
 use Rattle.script.specs.Laws.{HexReadsBack}
 
 digit-back : (d : ℕ) → d < 16 → digit-value (digit-char d) ≡ Some d

@@ -4,12 +4,12 @@ use mathlib.Core.List.{List, [], _∷_, _++_}
 use mathlib.Core.Bool.{Bool, true, false}
 use Prim.Native.Nat.{ℕ, _<_}
 use native.Mathlib.Omega.{arith}
-use lib.ListN.{length, take}
-use Rattle.std.specs.shelf.Lists.{All, leading}
+use lib.ListN.{length}
+use Rattle.std.specs.shelf.Lists.{All}
 use Rattle.std.proofs.shelf.Tests.{ne-eqb}
-use Rattle.script.specs.Words.{is-blank, in-word, with-char, pieces, non-empty, words}
+use Rattle.script.specs.Words.{is-blank, with-char, pieces, non-empty, words}
 use Rattle.script.specs.Laws.{WordsArePartedByBlanks}
-use Rattle.script.proofs.Cuts.{Parted, parted}
+use Rattle.script.proofs.Cuts.{parted}
 
 -- a character goes to the first piece, whatever follows
 with-char-append : (c : ℕ) (cs : List ℕ) (ws : List (List ℕ)) → with-char c (pieces cs ++ ws) ≡ with-char c (pieces cs) ++ ws

@@ -1,19 +1,17 @@
 -- The line that is written for an event says that event.
 use mathlib.Core.Path.{_≡_, refl, sym, ap, _∙_}
 use mathlib.Core.List.{List, [], _∷_, _++_}
-use mathlib.Core.Bool.{cond}
-use Prim.Native.Nat.{ℕ, _+_, _-_, _*_, _/_, _%_, _^_, _<_}
+use Prim.Native.Nat.{ℕ, _+_, _*_, _/_, _%_, _<_}
 use native.Mathlib.Omega.{arith}
-use lib.Dec.{ltb}
 use lib.ListN.{length}
 use Rattle.std.specs.shelf.Lists.{All}
 use Rattle.std.specs.declared.result.Result.the-variants.{Ok}
 use Rattle.std.proofs.shelf.Lists.{append-nil}
 use Rattle.std.proofs.shelf.Ways.{tells}
-use Rattle.script.specs.Hexadecimal.{digit-char, hex-bytes, hex-text}
-use Rattle.script.specs.Lines.{Happening, control, bulk, work, clock, bus-reset, bus-suspend, bus-resume, power-cycle, event, and-then, four-bytes, words-said, line-said}
+use Rattle.script.specs.Hexadecimal.{digit-char, hex-text}
+use Rattle.script.specs.Lines.{control, bulk, work, clock, bus-reset, bus-suspend, bus-resume, power-cycle, event, and-then, four-bytes, words-said}
 use Rattle.script.specs.Words.{words}
-use Rattle.script.specs.Laws.{Bytes, field-text, clock-bytes, line-text, Sayable, EventsReadBack}
+use Rattle.script.specs.Laws.{Bytes, field-text, clock-bytes, Sayable, EventsReadBack}
 use Rattle.script.proofs.Backs.{hex-back}
 use Rattle.script.proofs.Blanks.{words-parted, words-whole}
 

@@ -118,6 +118,7 @@ event-said letter ws =
     (cond (eqb letter 0x55) (plain-said bus-resume ws)
     (cond (eqb letter 0x50) (plain-said power-cycle ws) (Err UnknownLetter))))))))
 
+-- the first word is one letter; no word is empty
 abbrev pub words-said : List (List ℕ) → Result Said LineError
 words-said [] = Ok blank
 words-said ([] ∷ ws) = Err UnknownLetter

@@ -1,7 +1,7 @@
 // What a line of the script makes happen on the bus.
 // The bytes are the event's own, so that an answer can be stored in them.
 
-#[derive(Drop, Debug)]
+#[derive(Drop)]
 pub enum Event {
     // a control transfer: its setup bytes, and the data that arrive with it
     Control {

@@ -1,6 +1,5 @@
 // Reads a line of the script: a letter, then hexadecimal fields, with blanks between them.
 // Every line is blank, an event or a mistake of one named kind.
-ghost use mathlib.Core.Path.{_≡_};
 ghost use denote.Ref.{now as behind};
 ghost use Rattle.script.specs.Words.{words};
 ghost use Rattle.script.specs.Readings.{Reads};

@@ -1,5 +1,5 @@
 -- A long text is its list of codes by the variant alone.
-use mathlib.Core.Path.{_≡_, sym, ap}
+use mathlib.Core.Path.{sym, ap}
 use Rattle.script.specs.Messages.{message-text}
 use Rattle.script.proofs.error.LineError.message.Needs as need
 

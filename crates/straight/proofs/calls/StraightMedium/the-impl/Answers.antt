@@ -1,6 +1,4 @@
-use Prim.Native.Nat.{_+_, _*_, _≤_}
 use native.Mathlib.Omega.{arith}
-use lib.ListN.{length}
 use Rattle.medium.proofs.Mapped.{length-mapped, whole-mapped}
 use Rattle.straight.proofs.calls.StraightMedium.the-impl.Needs as need
 
