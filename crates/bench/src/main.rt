@@ -20,6 +20,7 @@ use straight::StraightMedium;
 
 // The bench's own stick: 64 straight good blocks of zeros, and one unit on the first 40; all its IDs are 0.
 const MEMORY_BYTES: usize = 32768;
+
 const LAYOUT: [u8; 16] = [0, 0, 0, 0, 0, 0, 1, 1, 0, 0, 0, 0, 40, 0, 0, 0];
 
 fn fitted_stick(heap: Global) -> Result<Running<Straight>, AllocError> {
@@ -29,7 +30,12 @@ fn fitted_stick(heap: Global) -> Result<Running<Straight>, AllocError> {
 }
 
 // What comes of an event: a record line, or none where the event is not served yet.
-fn control(heap: Global, stick: &Running<Straight>, setup: &[u8], data: Vec<u8>) -> Result<Option<Vec<u8>>, AllocError> {
+fn control(
+    heap: Global,
+    stick: &Running<Straight>,
+    setup: &[u8],
+    data: Vec<u8>,
+) -> Result<Option<Vec<u8>>, AllocError> {
     let mut buffer = handed_buffer(heap, setup, data)?;
     match stick.control(setup, buffer.as_mut_slice()) {
         Ok(count) => Ok(Some(record_line(heap, 0, &buffer.as_slice()[0..count])?)),
@@ -39,7 +45,11 @@ fn control(heap: Global, stick: &Running<Straight>, setup: &[u8], data: Vec<u8>)
 }
 
 // Performs an event on the stick, and says what is recorded of it.
-fn perform(heap: Global, stick: Running<Straight>, event: Event) -> Result<(Running<Straight>, Option<Vec<u8>>), AllocError> {
+fn perform(
+    heap: Global,
+    stick: Running<Straight>,
+    event: Event,
+) -> Result<(Running<Straight>, Option<Vec<u8>>), AllocError> {
     match event {
         Event::Control { setup, data } => {
             let record = control(heap, &stick, setup.as_slice(), data)?;
@@ -60,7 +70,11 @@ fn perform(heap: Global, stick: Running<Straight>, event: Event) -> Result<(Runn
 }
 
 // Takes one line of the script: its record is printed before the next line is read.
-fn serve(rt: &LibcRuntime, stick: Running<Straight>, line: &[u8]) -> Result<Running<Straight>, AnyError> {
+fn serve(
+    rt: &LibcRuntime,
+    stick: Running<Straight>,
+    line: &[u8],
+) -> Result<Running<Straight>, AnyError> {
     let heap = rt.alloc();
     let event = match read_line(heap, line) {
         Ok(Line::Blank) => return Ok(stick),

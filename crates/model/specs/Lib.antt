@@ -8,3 +8,7 @@ pub mod Requests
 pub mod Descriptors
 pub mod Units
 pub mod Sticks
+pub mod Parts
+pub mod Puts
+pub mod LockData
+pub mod Control

@@ -3,6 +3,7 @@
 pub mod ids;
 pub mod layout;
 pub mod lock;
+pub mod part;
 pub mod refusal;
 pub mod request;
 pub mod sense;

@@ -15,8 +15,8 @@ returns-in-DeviceDescriptor g c =
     let n = c .in-Some .asked .length in
     record {
       outcome = c .answer .ensures .outcome
-    ∙ ap (λ w. answered w n buf) (c .device-descriptor .ensures)
-    ∙ ap (λ (r : Request). read-request lay s r n buf) (sym (c .in-DeviceDescriptor .is))
-    ∙ ap (λ (o : Option Asked). reading lay s o buf) (c .in-Some .ensures tt);
+          ∙ ap (λ w. answered w n buf) (c .device-descriptor .ensures)
+          ∙ ap (λ (r : Request). read-request lay s r n buf) (sym (c .in-DeviceDescriptor .is))
+          ∙ ap (λ (o : Option Asked). reading lay s o buf) (c .in-Some .ensures tt);
       bound = c .answer .ensures .bound;
     }
