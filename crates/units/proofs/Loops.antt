@@ -1,30 +1,32 @@
 -- Loops over rows.
 use mathlib.Core.Path.{_≡_, refl, sym, ap, subst, _∙_}
 use mathlib.Core.List.{List, [], _∷_, _++_, map}
-use mathlib.Core.Bool.{Bool, true, false, _||_}
-use Prim.Native.Nat.{ℕ, _+_, _≤_, _<_}
+use mathlib.Core.Bool.{Bool, true, false, _||_, _&&_}
+use Prim.Native.Nat.{ℕ, zero, suc, _+_, _≤_, _<_}
 use native.Mathlib.Omega.{arith}
 use lib.ListN.{length, getD, set, take, drop}
-use Rattle.std.proofs.shelf.Lists.{map-set, set-getD, getD-map, length-map, length-set, append-nil, take-all, drop-all, at-drop-more}
+use Rattle.std.proofs.shelf.Lists.{map-set, getD-map, length-map, length-set, append-nil, take-all, drop-all, at-drop-more}
 use Rattle.std.proofs.shelf.Edits.{map-over-more}
 use Rattle.model.specs.Units.{UnitRecord, powered, holds-phrase, any-phrase}
 use Rattle.units.specs.declared.row.Row.{Row}
-use Rattle.units.specs.Records.{record-of, same-sizes, Sizes-kept, AllBounded}
+use Rattle.units.specs.Records.{record-of, sound-row, sound-rows}
 
--- a column of numbers that a new row keeps
-same-column : (f : Row → ℕ) (rows : List Row) (i : ℕ) (d r : Row) → i < length rows → f r ≡ f (getD rows i d) → map f (set rows i r) ≡ map f rows
-same-column f rows i d r h e = map-set f rows i r ∙ ap (set (map f rows) i) (e ∙ sym (getD-map f rows i d 0 h)) ∙ set-getD (map f rows) i 0
+-- a row that is as sound as the one before it
+sound-kept : (rows : List Row) (i : ℕ) (d r : Row) → i < length rows → sound-row r ≡ sound-row (getD rows i d) → sound-rows (set rows i r) ≡ sound-rows rows
+sound-kept [] i d r h e = refl
+sound-kept (x ∷ xs) zero d r h e = ap (λ b. b && sound-rows xs) e
+sound-kept (x ∷ xs) (suc i) d r h e = ap (λ b. sound-row x && b) (sound-kept xs i d r (omega arith) e)
 
 -- i rows are powered up, the others stand as they were, and no length has changed
 pub record Far (rows₀ rows : List Row) (i : ℕ) : Type 0 where
   pub records : map record-of rows ≡ map powered (take i (map record-of rows₀)) ++ drop i (map record-of rows₀)
-  pub sizes : Sizes-kept rows₀ rows
+  pub sound : sound-rows rows ≡ sound-rows rows₀
   pub count : length rows ≡ length rows₀
 
 pub far-none : (rows : List Row) → Far rows rows 0
-far-none rows = record { records = refl; sizes = (refl, refl, refl); count = refl }
+far-none rows = record { records = refl; sound = refl; count = refl }
 
-pub far-more : (rows₀ rows : List Row) (i : ℕ) (d r : Row) → i < length rows → record-of r ≡ powered (record-of (getD rows i d)) → same-sizes r (getD rows i d)
+pub far-more : (rows₀ rows : List Row) (i : ℕ) (d r : Row) → i < length rows → record-of r ≡ powered (record-of (getD rows i d)) → sound-row r ≡ sound-row (getD rows i d)
     → Far rows₀ rows i → Far rows₀ (set rows i r) (i + 1)
 far-more rows₀ rows i d r h er es f =
     let us₀ = map record-of rows₀ in
@@ -32,11 +34,7 @@ far-more rows₀ rows i d r h er es f =
     let h₀ : i < length us₀ = subst (λ (n : ℕ). i < n) (f .count ∙ sym (length-map rows₀ record-of)) h in
     record {
       records = map-set record-of rows i r ∙ ap (set (map record-of rows) i) er ∙ map-over-more powered us₀ (map record-of rows) i u h₀ (f .records) (sym (getD-map record-of rows i d u h));
-      sizes = (
-        same-column (λ (y : Row). y .«phrase_len») rows i d r h (es .0) ∙ f .sizes .0,
-        same-column (λ (y : Row). y .«hint_len») rows i d r h (es .1) ∙ f .sizes .1,
-        same-column (λ (y : Row). y .misses) rows i d r h (es .2) ∙ f .sizes .2,
-      );
+      sound = sound-kept rows i d r h es ∙ f .sound;
       count = length-set rows i r ∙ f .count;
     }
 
@@ -50,9 +48,3 @@ pub any-step : (rows : List Row) (i : ℕ) (d : Row) (t : Bool) → i < length r
     → any-phrase (map record-of (drop i rows)) ≡ (t || any-phrase (map record-of (drop (i + 1) rows)))
 any-step rows i d t h e = at-drop-more (λ rs. any-phrase (map record-of rs)) rows i d h ∙ ap (λ x. x || any-phrase (map record-of (drop (i + 1) rows))) (sym e)
 
-pub bounded-kept : (rows₀ rows : List Row) → Sizes-kept rows₀ rows → AllBounded rows₀ → AllBounded rows
-bounded-kept rows₀ rows e b k = (
-  subst (λ (xs : List ℕ). getD xs k 0 ≤ 50) (sym (e .0)) (b k .0),
-  subst (λ (xs : List ℕ). getD xs k 0 ≤ 100) (sym (e .1)) (b k .1),
-  subst (λ (xs : List ℕ). getD xs k 0 ≤ 10) (sym (e .2)) (b k .2),
-)

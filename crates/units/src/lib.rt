@@ -1,5 +1,6 @@
 // The records of a stick's units: sixteen plain rows under one invariant.
 // What a row means is the model's record of a unit; each call says what it makes of that.
+mod compare;
 pub mod row;
 pub mod rows;
 pub mod table;

@@ -1,8 +1,9 @@
 // One unit's record: a plain row of fixed arrays.
 // Of an array only the first bytes are in use, as its length says; the others are zeros.
+ghost use mathlib.Core.Bool.{true};
 ghost use mathlib.Core.Path.{_≡_};
 ghost use Rattle.model.specs.Units.{new-unit, powered, holds-phrase};
-ghost use Rattle.units.specs.Records.{record-of, Bounded, same-sizes};
+ghost use Rattle.units.specs.Records.{record-of, sound-row};
 use model::lock::LockState;
 use model::sense::Sense;
 
@@ -27,7 +28,7 @@ impl Row {
     // A new unit: Impersonal, with no misses.
     pub fn new() -> Row
         ensures record { λ r. ⌜ record-of r ≡ new-unit ⌝ }
-        ensures bounded { λ r. ⌜ Bounded r ⌝ }
+        ensures sound { λ r. ⌜ sound-row r ≡ true ⌝ }
     {
         Row {
             state: LockState::Impersonal,
@@ -44,7 +45,7 @@ impl Row {
     // Power-up: a unit that holds a passphrase is locked, and nothing is told of the time before.
     pub fn power_up(&mut self)
         ensures record { λ _. ⌜ record-of (now (self .exit)) ≡ powered (record-of (now (self .entry))) ⌝ }
-        ensures sizes { λ _. ⌜ same-sizes (now (self .exit)) (now (self .entry)) ⌝ }
+        ensures sound { λ _. ⌜ sound-row (now (self .exit)) ≡ sound-row (now (self .entry)) ⌝ }
     {
         if let LockState::Unlocked = self.state {
             self.state = LockState::Locked;

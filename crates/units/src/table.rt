@@ -4,7 +4,7 @@ ghost use mathlib.Core.Path.{_≡_};
 ghost use mathlib.Core.List.{map};
 ghost use lib.ListN.{replicate};
 ghost use Rattle.model.specs.Units.{new-unit, powered, any-phrase};
-ghost use Rattle.units.specs.Records.{record-of, Sizes-kept};
+ghost use Rattle.units.specs.Records.{record-of, sound-rows};
 ghost use Rattle.units.specs.Tables.{records-of};
 use crate::row::Row;
 use crate::rows::Rows;
@@ -22,7 +22,7 @@ impl Rows {
 
 fn power_up_rows(rows: &mut [Row])
     ensures records { λ _. ⌜ map record-of (now (rows .exit)) ≡ map powered (map record-of (now (rows .entry))) ⌝ }
-    ensures sizes { λ _. ⌜ Sizes-kept (now (rows .entry)) (now (rows .exit)) ⌝ }
+    ensures sound { λ _. ⌜ sound-rows (now (rows .exit)) ≡ sound-rows (now (rows .entry)) ⌝ }
 {
     for row in rows.iter_mut() {
         row.power_up();

@@ -8,11 +8,11 @@ loop-row-holds c = far-none _
 pub loop-row-again : need.loop-row-again
 loop-row-again c =
     far-more (c .args .rows .now) (c .loop-row .rows) (c .loop-row .row-index) _ (c .power-up .last .self)
-    (search needs) (c .power-up .ensures .record) (c .power-up .ensures .sizes) (c .loop-row .inv)
+    (search needs) (c .power-up .ensures .record) (c .power-up .ensures .sound) (c .loop-row .inv)
 
 pub returns : need.returns
 returns c =
     record {
       records = far-all (c .args .rows .now) (c .loop-row .rows) (c .loop-row .row-index) (search needs) (c .loop-row .inv);
-      sizes = c .loop-row .inv .sizes;
+      sound = c .loop-row .inv .sound;
     }
