@@ -19,6 +19,7 @@ use crate::row::Row;
 use formats::put::UnitPut;
 use model::lock::LockState;
 use model::refusal::Refusal;
+use model::request::Put;
 
 const MOST_MISSES: u8 = 10;
 
@@ -123,5 +124,48 @@ impl Row {
         self.state = LockState::Impersonal;
         self.accepted = true;
         Ok(())
+    }
+
+    // The Put's transition: the earliest of the refusals 9, 10, 11, 12 and 13, or accepted.
+    pub(crate) fn put(&mut self, put: UnitPut<'_>, negotiable: bool) -> Result<(), Refusal>
+        requires { ⌜ sound-row (now self) ≡ true ⌝ }
+        ensures turn { λ r. ⌜ turn-of r (now (self .exit)) ≡ turned negotiable (put-of (put .entry)) (record-of (now (self .entry))) ⌝ }
+        ensures sound { λ _. ⌜ sound-row (now (self .exit)) ≡ true ⌝ }
+    {
+        match (self.state, put) {
+            (_, UnitPut::Misfit) => self.refuse(Refusal::WrongLength),
+            (_, UnitPut::Malformed { put: Put::EraseForgottenPassphrase | Put::LockAgain | Put::ChangeInterfaceAccess }) => self.refuse(Refusal::WrongLength),
+            (LockState::Recovering { .. }, _) => Err(Refusal::Recovering),
+            (LockState::Impersonal, UnitPut::Store { phrase, hint }) if do_fit(phrase, hint) => self.keep(phrase, hint),
+            (LockState::Impersonal, UnitPut::Store { .. } | UnitPut::Malformed { put: Put::StorePassphrase }) => self.refuse(Refusal::Malformed),
+            (LockState::Impersonal, _) => self.refuse(Refusal::WrongState),
+            (LockState::Locked, UnitPut::Match { candidate }) => {
+                if self.is_correct(candidate) {
+                    self.open()
+                } else {
+                    self.miss()
+                }
+            }
+            (LockState::Locked, UnitPut::Malformed { put: Put::MatchPassphrase }) => self.refuse(Refusal::Malformed),
+            (LockState::Locked, UnitPut::EraseForgotten) => self.accept(LockState::Recovering { steps_done: 0 }),
+            (LockState::Locked, _) => self.refuse(Refusal::WrongState),
+            (LockState::Unlocked, UnitPut::Change { candidate, phrase, hint }) if do_fit(phrase, hint) => {
+                if self.is_correct(candidate) {
+                    self.keep(phrase, hint)
+                } else {
+                    self.miss()
+                }
+            }
+            (LockState::Unlocked, UnitPut::Erase { candidate }) => {
+                if self.is_correct(candidate) {
+                    self.erase()
+                } else {
+                    self.miss()
+                }
+            }
+            (LockState::Unlocked, UnitPut::Change { .. } | UnitPut::Malformed { put: Put::ChangePassphrase | Put::ErasePassphrase }) => self.refuse(Refusal::Malformed),
+            (LockState::Unlocked, UnitPut::LockAgain) if negotiable => self.accept(LockState::Locked),
+            (LockState::Unlocked, _) => self.refuse(Refusal::WrongState),
+        }
     }
 }
