@@ -1,3 +1,4 @@
 pub mod Loops
 pub mod Compared
 pub mod Stored
+pub mod Tables

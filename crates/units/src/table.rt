@@ -1,13 +1,24 @@
 // Calls that go over all rows.
 // The loops go over slices, which know their length.
 ghost use mathlib.Core.Path.{_≡_};
+ghost use mathlib.Core.Bool.{cond};
 ghost use mathlib.Core.List.{map};
-ghost use lib.ListN.{replicate};
+ghost use lib.Dec.{ltb};
+ghost use lib.ListN.{getD, replicate};
+ghost use Rattle.formats.specs.Carries.{put-of};
+ghost use Rattle.model.specs.Control.{alter};
+ghost use Rattle.model.specs.Puts.{turned};
+ghost use Rattle.model.specs.Refusals.{refusal-number};
+ghost use Rattle.model.specs.declared.refusal.Refusal.the-variants.{Absent};
 ghost use Rattle.model.specs.Units.{new-unit, powered, any-phrase};
-ghost use Rattle.units.specs.Records.{record-of, sound-rows};
+ghost use Rattle.units.specs.Records.{record-of, result-code, sound-rows};
 ghost use Rattle.units.specs.Tables.{records-of};
 use crate::row::Row;
 use crate::rows::Rows;
+use formats::put::UnitPut;
+use model::refusal::Refusal;
+
+const MOST_UNITS: usize = 16;
 
 impl Rows {
     // Sixteen new units.
@@ -48,4 +59,17 @@ pub fn is_any_personal(rows: &[Row]) -> bool
         }
     }
     false
+}
+
+impl Rows {
+    // A Put to the unit with this number; the other rows stay. There is no unit past the table.
+    pub fn put_to(&mut self, index: usize, put: UnitPut<'_>, negotiable: bool) -> Result<(), Refusal>
+        ensures code { λ r. ⌜ result-code r ≡ cond (ltb index 16) (turned negotiable (put-of (put .entry)) (getD (records-of (now (self .entry))) index new-unit) .code) (refusal-number Absent) ⌝ }
+        ensures after { λ _. ⌜ records-of (now (self .exit)) ≡ alter index (λ u. turned negotiable (put-of (put .entry)) u .after) (records-of (now (self .entry))) ⌝ }
+    {
+        if index >= MOST_UNITS {
+            return Err(Refusal::Absent);
+        }
+        self.rows[index].put(put, negotiable)
+    }
 }
