@@ -5,39 +5,17 @@ use mathlib.Core.Bool.{Bool, true, false, cond}
 use mathlib.Core.Logic.{⊎-elim}
 use Prim.Native.Nat.{ℕ, zero, suc, _+_, _-_, _≤_, _<_}
 use native.Mathlib.Omega.{arith}
-use native.Mathlib.Numerals.{add-one}
 use lib.ListN.{length, getD, set, take, drop}
 use Rattle.std.specs.Iters.{counting}
 use Rattle.std.proofs.shelf.Counted.{length-map-counting, getD-map-counting}
 use Rattle.std.proofs.shelf.Lists.{same-lists, length-take, length-set, take-take, drop-take, getD-take, getD-set-same, getD-set-other, take-map, drop-map}
 use Rattle.std.proofs.shelf.Tests.{cases-eq}
+use Rattle.layout.proofs.Sums.{sum-next, sum-within}
 use Rattle.model.specs.Layouts.{Layout, sum}
 use Rattle.model.specs.Sticks.{interface, interface-up, units-of-interface}
 use Rattle.model.specs.Units.{UnitRecord, any-phrase}
 use Rattle.model.specs.declared.ids.Ids.the-variants.{Negotiable, ScsiBbb}
 use Rattle.model.specs.declared.ids.Interface.{Interface}
-
--- sums of the first counts
-sum-more : (cs : List ℕ) (i : ℕ) → sum (take (suc i) cs) ≡ sum (take i cs) + getD cs i 0
-sum-more [] zero = refl
-sum-more [] (suc i) = refl
-sum-more (c ∷ cs) zero = omega arith
-sum-more (c ∷ cs) (suc i) = let e = sum-more cs i in omega arith
-
-sum-grows : (cs : List ℕ) (i j : ℕ) → i ≤ j → sum (take i cs) ≤ sum (take j cs)
-sum-grows [] zero zero h = omega arith
-sum-grows [] zero (suc j) h = omega arith
-sum-grows [] (suc i) zero h = omega arith
-sum-grows [] (suc i) (suc j) h = omega arith
-sum-grows (c ∷ cs) zero j h = omega arith
-sum-grows (c ∷ cs) (suc i) zero h = absurd (omega arith)
-sum-grows (c ∷ cs) (suc i) (suc j) h = let e = sum-grows cs i j (omega arith) in omega arith
-
-pub sum-next : (cs : List ℕ) (i : ℕ) → sum (take (i + 1) cs) ≡ sum (take i cs) + getD cs i 0
-sum-next cs i = ap (λ k. sum (take k cs)) (add-one i) ∙ sum-more cs i
-
-pub sum-within : (cs : List ℕ) (i n : ℕ) → i < n → sum (take i cs) + getD cs i 0 ≤ sum (take n cs)
-sum-within cs i n h = let e = sum-next cs i in let g = sum-grows cs (i + 1) n (omega arith) in omega arith
 
 -- a part of the first N elements is a part of all
 part-of-first : {A : Type 0} (f c n : ℕ) (xs : List A) → f + c ≤ n → take c (drop f (take n xs)) ≡ take c (drop f xs)
