@@ -1,6 +1,6 @@
 -- Control transfers: what each answers, what it changes, and what the handed buffer then holds.
 use mathlib.Core.List.{List, [], _∷_, _++_}
-use mathlib.Core.Bool.{Bool, true, false, cond, _&&_, _||_, not}
+use mathlib.Core.Bool.{Bool, true, false, cond, _&&_, not}
 use Prim.Native.Nat.{ℕ, zero, suc, _+_, _-_}
 use lib.Dec.{eqb, ltb}
 use lib.ListN.{length, getD, take, drop, replicate}
@@ -16,7 +16,7 @@ use Rattle.model.specs.Puts.{UnitPut, misfit, carried, Turn, turned}
 use Rattle.model.specs.Refusals.{refusal-number}
 use Rattle.model.specs.Requests.{shortest, longest, requested, is-reading}
 use Rattle.model.specs.Sticks.{Stick, stick, interface, units-of-interface}
-use Rattle.model.specs.Units.{Standing, impersonal, locked, unlocked, recovering, UnitRecord, new-unit}
+use Rattle.model.specs.Units.{UnitRecord, new-unit, any-locked}
 use Rattle.model.specs.declared.ids.Ids.{Ids}
 use Rattle.model.specs.declared.ids.Ids.the-variants.{Negotiable, ScsiBbb}
 use Rattle.model.specs.declared.ids.Interface.{Interface}
@@ -98,16 +98,6 @@ sized p n ds = cond (between (shortest p) (longest p) n && eqb n (length ds)) (c
 abbrev pub put-to-unit : Option ℕ → Bool → UnitPut → Stick → Outcome
 put-to-unit None n p s = refuse Absent s
 put-to-unit (Some v) n p s = outcome (turned n p (unit-at v s) .code) [] (with-units (alter v (λ u. turned n p u .after) (s .units)) s)
-
-abbrev pub is-locked : Standing → Bool
-is-locked impersonal = false
-is-locked (locked p) = true
-is-locked (unlocked p) = false
-is-locked (recovering p d) = true
-
-abbrev pub any-locked : List UnitRecord → Bool
-any-locked [] = false
-any-locked (u ∷ us) = is-locked (u .standing) || any-locked us
 
 -- Change Interface Access: the stick idles, then is gone, then presents the target; SCSI BBB IDs are refused while a unit of the
 -- interface is Locked

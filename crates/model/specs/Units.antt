@@ -34,9 +34,23 @@ holds-phrase (locked p) = true
 holds-phrase (unlocked p) = true
 holds-phrase (recovering p d) = true
 
+-- a recovering unit is Locked
+abbrev pub is-locked : Standing → Bool
+is-locked impersonal = false
+is-locked (locked p) = true
+is-locked (unlocked p) = false
+is-locked (recovering p d) = true
+
+-- some unit of a list stands so
+abbrev pub any-standing : (Standing → Bool) → List UnitRecord → Bool
+any-standing test [] = false
+any-standing test (u ∷ us) = test (u .standing) || any-standing test us
+
 abbrev pub any-phrase : List UnitRecord → Bool
-any-phrase [] = false
-any-phrase (u ∷ us) = holds-phrase (u .standing) || any-phrase us
+any-phrase us = any-standing holds-phrase us
+
+abbrev pub any-locked : List UnitRecord → Bool
+any-locked us = any-standing is-locked us
 
 -- a power cycle locks a unit that holds a passphrase; a recovery goes on from its step
 abbrev pub relocked : Standing → Standing

@@ -7,7 +7,7 @@ use native.Mathlib.Omega.{arith}
 use lib.ListN.{length, getD, set, take, drop}
 use Rattle.std.proofs.shelf.Lists.{map-set, getD-map, length-map, length-set, append-nil, take-all, drop-all, at-drop-more}
 use Rattle.std.proofs.shelf.Edits.{map-over-more}
-use Rattle.model.specs.Units.{UnitRecord, powered, holds-phrase, any-phrase}
+use Rattle.model.specs.Units.{Standing, powered, any-standing}
 use Rattle.units.specs.declared.row.Row.{Row}
 use Rattle.units.specs.Records.{record-of, sound-row, sound-rows}
 
@@ -44,7 +44,6 @@ far-all rows₀ rows i h f =
     let le : length us₀ ≤ i = rw length-map h in
     f .records ∙ ap (λ x. map powered x ++ drop i us₀) (take-all i us₀ le) ∙ ap (λ x. map powered us₀ ++ x) (drop-all i us₀ le) ∙ append-nil (map powered us₀)
 
-pub any-step : (rows : List Row) (i : ℕ) (d : Row) (t : Bool) → i < length rows → t ≡ holds-phrase (record-of (getD rows i d) .standing)
-    → any-phrase (map record-of (drop i rows)) ≡ (t || any-phrase (map record-of (drop (i + 1) rows)))
-any-step rows i d t h e = at-drop-more (λ rs. any-phrase (map record-of rs)) rows i d h ∙ ap (λ x. x || any-phrase (map record-of (drop (i + 1) rows))) (sym e)
-
+pub any-step : (test : Standing → Bool) (rows : List Row) (i : ℕ) (d : Row) (t : Bool) → i < length rows → t ≡ test (record-of (getD rows i d) .standing)
+    → any-standing test (map record-of (drop i rows)) ≡ (t || any-standing test (map record-of (drop (i + 1) rows)))
+any-step test rows i d t h e = at-drop-more (λ rs. any-standing test (map record-of rs)) rows i d h ∙ ap (λ x. x || any-standing test (map record-of (drop (i + 1) rows))) (sym e)

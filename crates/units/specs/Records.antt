@@ -10,10 +10,12 @@ use Rattle.std.specs.declared.result.Result.the-variants.{Ok, Err}
 use Rattle.std.specs.shelf.Text.{sameBytes}
 use Rattle.model.specs.Puts.{Turn, turn}
 use Rattle.model.specs.Refusals.{refusal-number}
-use Rattle.model.specs.Units.{Standing, impersonal, locked, unlocked, recovering, UnitRecord, unit-record}
+use Rattle.model.specs.Units.{Standing, impersonal, locked, unlocked, recovering, UnitRecord, unit-record, holds-phrase, is-locked}
 use Rattle.model.specs.declared.lock.LockState.{LockState}
 use Rattle.model.specs.declared.lock.LockState.the-variants.{Impersonal, Locked, Unlocked, Recovering}
 use Rattle.model.specs.declared.refusal.Refusal.{Refusal}
+use Rattle.units.specs.declared.row.Quality.{Quality}
+use Rattle.units.specs.declared.row.Quality.the-variants as quality
 use Rattle.units.specs.declared.row.Row.{Row}
 
 abbrev pub standing-of : LockState → List ℕ → Standing
@@ -54,3 +56,7 @@ result-code (Err r) = refusal-number r
 
 abbrev pub turn-of : Result (Unit {0}) Refusal → Row → Turn
 turn-of r row = turn (result-code r) (record-of row)
+
+abbrev pub quality-test : Quality → Standing → Bool
+quality-test quality.Personal st = holds-phrase st
+quality-test quality.Locked st = is-locked st

@@ -2,14 +2,21 @@
 // Of an array only the first bytes are in use, as its length says; the others are zeros.
 ghost use mathlib.Core.Bool.{true};
 ghost use mathlib.Core.Path.{_≡_};
-ghost use Rattle.model.specs.Units.{new-unit, powered, holds-phrase};
-ghost use Rattle.units.specs.Records.{record-of, sound-row};
+ghost use Rattle.model.specs.Units.{new-unit, powered};
+ghost use Rattle.units.specs.Records.{quality-test, record-of, sound-row};
 use model::lock::LockState;
 use model::sense::Sense;
 
 pub const PHRASE_BYTES: usize = 50;
 
 pub const HINT_BYTES: usize = 100;
+
+// How a unit may stand: holding a passphrase, or Locked.
+#[derive(Clone, Copy)]
+pub enum Quality {
+    Personal,
+    Locked,
+}
 
 #[derive(Clone, Copy)]
 pub struct Row {
@@ -54,10 +61,15 @@ impl Row {
         self.sense = Sense::None;
     }
 
-    // Whether a passphrase is held.
-    pub fn is_personal(&self) -> bool
-        ensures { λ r. ⌜ r ≡ holds-phrase (record-of (now (self .entry)) .standing) ⌝ }
+    // Whether the unit stands so.
+    pub fn is(&self, quality: Quality) -> bool
+        ensures { λ r. ⌜ r ≡ quality-test quality (record-of (now (self .entry)) .standing) ⌝ }
     {
-        !matches!(self.state, LockState::Impersonal)
+        match (quality, self.state) {
+            (Quality::Personal, LockState::Impersonal) => false,
+            (Quality::Personal, _) => true,
+            (Quality::Locked, LockState::Locked | LockState::Recovering { .. }) => true,
+            (Quality::Locked, _) => false,
+        }
     }
 }

@@ -10,9 +10,10 @@ ghost use Rattle.model.specs.Control.{alter};
 ghost use Rattle.model.specs.Puts.{turned};
 ghost use Rattle.model.specs.Refusals.{refusal-number};
 ghost use Rattle.model.specs.declared.refusal.Refusal.the-variants.{Absent};
-ghost use Rattle.model.specs.Units.{new-unit, powered, any-phrase};
-ghost use Rattle.units.specs.Records.{record-of, result-code, sound-rows};
+ghost use Rattle.model.specs.Units.{new-unit, powered, any-standing};
+ghost use Rattle.units.specs.Records.{quality-test, record-of, result-code, sound-rows};
 ghost use Rattle.units.specs.Tables.{records-of};
+use crate::row::Quality;
 use crate::row::Row;
 use crate::rows::Rows;
 use formats::put::UnitPut;
@@ -49,12 +50,12 @@ impl Rows {
     }
 }
 
-// Whether one of these units holds a passphrase.
-pub fn is_any_personal(rows: &[Row]) -> bool
-    ensures { λ r. ⌜ r ≡ any-phrase (map record-of (now (rows .entry))) ⌝ }
+// Whether one of these units stands so.
+pub fn is_any(rows: &[Row], quality: Quality) -> bool
+    ensures { λ r. ⌜ r ≡ any-standing (quality-test quality) (map record-of (now (rows .entry))) ⌝ }
 {
     for row in rows {
-        if row.is_personal() {
+        if row.is(quality) {
             return true;
         }
     }

@@ -20,15 +20,16 @@ use medium::Medium;
 use model::ids::Ids;
 use model::ids::Interface;
 use model::ids::Phase;
+use units::row::Quality;
 use units::row::Row;
 use units::rows::Rows;
-use units::table::is_any_personal;
+use units::table::is_any;
 
 // An interface at power-up: Negotiable exactly if one of its units holds a passphrase.
 fn interface_up(rows: &[Row]) -> Interface
     ensures { λ r. ⌜ r ≡ interface (cond (any-phrase (map record-of (now (rows .entry)))) Negotiable ScsiBbb) false ⌝ }
 {
-    let ids = if is_any_personal(rows) {
+    let ids = if is_any(rows, Quality::Personal) {
         Ids::Negotiable
     } else {
         Ids::ScsiBbb
