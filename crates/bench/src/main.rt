@@ -12,7 +12,6 @@ use std::error::AnyError;
 use std::io::BufRead;
 use std::io::BufReader;
 use std::io::Write;
-use stick::stick::Declined;
 use stick::stick::Running;
 use stick::stick::power::start;
 use straight::Straight;
@@ -29,22 +28,21 @@ fn fitted_stick(heap: Global) -> Result<Running<Straight>, AllocError> {
     Ok(start(medium, &LAYOUT))
 }
 
-// What comes of an event: a record line, or none where the event is not served yet.
+// A control transfer, and its record line.
 fn control(
     heap: Global,
-    stick: &Running<Straight>,
+    stick: &mut Running<Straight>,
     setup: &[u8],
     data: Vec<u8>,
-) -> Result<Option<Vec<u8>>, AllocError> {
+) -> Result<Vec<u8>, AllocError> {
     let mut buffer = handed_buffer(heap, setup, data)?;
     match stick.control(setup, buffer.as_mut_slice()) {
-        Ok(count) => Ok(Some(record_line(heap, 0, &buffer.as_slice()[0..count])?)),
-        Err(Declined::Refused(refusal)) => Ok(Some(record_line(heap, refusal.number(), &[])?)),
-        Err(Declined::Unsupported) => Ok(None),
+        Ok(count) => record_line(heap, 0, &buffer.as_slice()[0..count]),
+        Err(refusal) => record_line(heap, refusal.number(), &[]),
     }
 }
 
-// Performs an event on the stick, and says what is recorded of it.
+// Performs an event on the stick, and says what is recorded of it; nothing where the event is not served yet.
 fn perform(
     heap: Global,
     stick: Running<Straight>,
@@ -52,8 +50,9 @@ fn perform(
 ) -> Result<(Running<Straight>, Option<Vec<u8>>), AllocError> {
     match event {
         Event::Control { setup, data } => {
-            let record = control(heap, &stick, setup.as_slice(), data)?;
-            Ok((stick, record))
+            let mut stick = stick;
+            let record = control(heap, &mut stick, setup.as_slice(), data)?;
+            Ok((stick, Some(record)))
         }
         Event::PowerCycle => Ok((stick.power_cycle(), Some(record_line(heap, 0, &[])?))),
         Event::Bulk {

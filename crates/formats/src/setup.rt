@@ -1,6 +1,7 @@
 // The 8 setup bytes of a control transfer: bmRequestType, bRequest, wValue, wIndex, wLength.
 // Taken apart by patterns, and judged by themselves.
 ghost use mathlib.Core.Path.{_≡_};
+ghost use Rattle.model.specs.Bytes.{between};
 ghost use Rattle.model.specs.Requests.{put-told, descriptor-asked, requested, length-allowed, judged-setup, is-reading, shortest, longest};
 use model::refusal::Refusal;
 use model::request::Asked;
@@ -116,6 +117,14 @@ fn put_lengths(put: Put) -> (u16, u16)
     }
 }
 
+// Whether a Put may have this wLength.
+pub fn is_put_length(put: Put, length: u16) -> bool
+    ensures { λ r. ⌜ r ≡ between (shortest put) (longest put) length ⌝ }
+{
+    let (shortest, longest) = put_lengths(put);
+    shortest <= length && length <= longest
+}
+
 // Whether a request may have this wLength, whatever arrives with it.
 pub fn is_length_allowed(request: Request, length: u16) -> bool
     ensures { λ r. ⌜ r ≡ length-allowed request length ⌝ }
@@ -124,10 +133,7 @@ pub fn is_length_allowed(request: Request, length: u16) -> bool
         Request::DeviceDescriptor | Request::Bundle | Request::LockData { .. } => true,
         Request::HighestUnit { .. } => length == 1,
         Request::ClearJam { .. } => length == 0,
-        Request::PutTo { put, .. } => {
-            let (shortest, longest) = put_lengths(put);
-            shortest <= length && length <= longest
-        }
+        Request::PutTo { put, .. } => is_put_length(put, length),
     }
 }
 

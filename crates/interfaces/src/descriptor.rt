@@ -161,7 +161,8 @@ impl Interfaces {
 impl Bundle {
     // The bundle's bytes.
     pub fn as_slice(&self) -> &[u8]
-        ensures { λ r. ⌜ now r ≡ bundle-of (now (self .entry)) ⌝ }
+        ensures bytes { λ r. ⌜ now r ≡ bundle-of (now (self .entry)) ⌝ }
+        ensures bound { λ r. ⌜ length (now r) ≤ 113 ⌝ }
     {
         &self.bytes[0..self.len]
     }

@@ -12,6 +12,7 @@ use Rattle.std.proofs.shelf.Lists.{length-take, getD-take, take-take}
 use Rattle.std.proofs.shelf.Tests.{and-from, and-left, and-right, lt-ltb, le-ltb, cond-true, cond-false}
 use Rattle.model.specs.Control.{find-unit}
 use Rattle.model.specs.Layouts.{Layout, sum}
+use Rattle.layout.specs.Tables.{range, range-of}
 use Rattle.layout.proofs.Sums.{sum-within}
 
 module _ (lay : Layout) (cs : List ℕ) (n i k : ℕ) (counts : lay .counts ≡ take n cs) (long : n ≤ length cs) where
@@ -45,3 +46,13 @@ module _ (lay : Layout) (cs : List ℕ) (n i k : ℕ) (counts : lay .counts ≡ 
 
   pub unit-within : (all : ℕ) → all ≡ sum (take n cs) → i < n → k < getD cs i 0 → sum (take i cs) + k < all
   unit-within all e h l = let w = sum-within cs i n h in omega arith
+
+  pub no-range : n ≤ i → None ≡ range-of lay i
+  no-range h = sym (cond-false has-interface _ None (le-ltb i (length (lay .counts)) (omega (arith, count))))
+
+  pub has-range : (first : ℕ) → i < n → first ≡ sum (take i cs) → Some (range first (first + getD cs i 0)) ≡ range-of lay i
+  has-range first h e =
+      let begins : sum (take i (lay .counts)) ≡ first = ap (λ x. sum (take i x)) counts ∙ ap sum (take-take i n cs (omega arith)) ∙ sym e in
+      ap (λ m. Some (range first (first + m))) (sym (units h))
+      ∙ ap (λ f. Some (range f (f + getD (lay .counts) i 0))) (sym begins)
+      ∙ sym (cond-true has-interface _ None (lt-ltb i (length (lay .counts)) (omega (arith, count))))

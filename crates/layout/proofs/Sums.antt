@@ -28,4 +28,3 @@ sum-next cs i = ap (λ k. sum (take k cs)) (add-one i) ∙ sum-more cs i
 
 pub sum-within : (cs : List ℕ) (i n : ℕ) → i < n → sum (take i cs) + getD cs i 0 ≤ sum (take n cs)
 sum-within cs i n h = let e = sum-next cs i in let g = sum-grows cs (i + 1) n (omega arith) in omega arith
-

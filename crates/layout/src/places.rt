@@ -6,7 +6,7 @@ ghost use lib.ListN.{take};
 ghost use Rattle.std.specs.Options.{Cases as BySome};
 ghost use Rattle.model.specs.Control.{find-unit};
 ghost use Rattle.model.specs.Layouts.{place-start, place-count, sum};
-ghost use Rattle.layout.specs.Tables.{layout-of};
+ghost use Rattle.layout.specs.Tables.{layout-of, range-of};
 use crate::table::Layout;
 use extents::find;
 use extents::kinds::place::PlaceExtent;
@@ -35,7 +35,7 @@ impl Layout {
     // A unit of an interface by its number in the whole stick, if there is one.
     pub fn find_unit(&self, interface: u8, unit: u8) -> Option<usize>
         ensures value { λ r. ⌜ r ≡ find-unit (layout-of (now (self .entry))) interface unit ⌝ }
-        ensures bound { λ r. ⌜ BySome r (Unit {0}) (λ v. v < now (self .entry) .«unit_count») ⌝ }
+        ensures bound { λ r. ⌜ BySome r (Unit {0}) (λ v. (v < now (self .entry) .«unit_count») × (interface < now (self .entry) .«interface_count»)) ⌝ }
     {
         let i = interface as usize;
         if i >= self.interface_count {
@@ -45,5 +45,18 @@ impl Layout {
             return None;
         }
         Some(self.first_unit(i) + unit as usize)
+    }
+
+    // The units of an interface in the whole stick: the first, and the one behind the last.
+    pub fn unit_range(&self, interface: u8) -> Option<(usize, usize)>
+        ensures value { λ r. ⌜ r ≡ range-of (layout-of (now (self .entry))) interface ⌝ }
+        ensures bound { λ r. ⌜ BySome r (Unit {0}) (λ p. (p .1 ≤ now (self .entry) .«unit_count») × (p .0 ≤ p .1)) ⌝ }
+    {
+        let i = interface as usize;
+        if i >= self.interface_count {
+            return None;
+        }
+        let first = self.first_unit(i);
+        Some((first, first + self.unit_counts[i] as usize))
     }
 }

@@ -1,44 +1,42 @@
--- An answer at the front of a buffer.
+-- An answer cut to what is wanted, and put at the front of a buffer.
 use mathlib.Core.Path.{_≡_, refl, sym, ap, _∙_}
 use mathlib.Core.List.{List, _++_}
 use mathlib.Core.Bool.{true, false, cond}
-use mathlib.Core.Logic.{⊎-elim}
 use Prim.Native.Nat.{ℕ, min, _+_, _≤_, _<_}
 use native.Mathlib.Omega.{arith}
 use lib.Dec.{ltb}
 use lib.ListN.{length, take, drop}
-use Rattle.std.proofs.shelf.Lists.{length-take, length-append, take-all}
-use Rattle.std.proofs.shelf.Tests.{cases-lt, lt-ltb, le-ltb, cond-true, cond-false}
-use Rattle.std.specs.declared.result.Result.the-variants.{Ok, Err}
+use Rattle.std.proofs.shelf.Lists.{length-take, length-append, take-all, take-at}
+use Rattle.std.proofs.shelf.Tests.{lt-ltb, le-ltb, cond-true, cond-false}
+use Rattle.model.specs.Control.{Outcome, outcome, refuse, answered, transferred}
+use Rattle.model.specs.Sticks.{Stick}
 use Rattle.model.specs.declared.refusal.Refusal.the-variants.{ShortBuffer}
-use Rattle.stick.specs.Control.{Served, served, answered}
-use Rattle.stick.specs.declared.stick.Declined.the-variants.{Refused}
 
-take-min : (n : ℕ) (xs : List ℕ) → take (min n (length xs)) xs ≡ take n xs
-take-min n xs =
-    ⊎-elim
-    (λ (lt : n < length xs). let e : min n (length xs) ≡ n = omega arith in ap (λ k. take k xs) e)
-    (λ (le : length xs ≤ n). let e : min n (length xs) ≡ length xs = omega arith in ap (λ k. take k xs) e ∙ take-all (length xs) xs (omega arith) ∙ sym (take-all n xs le))
-    (cases-lt n (length xs))
-
-module _ (whole : List ℕ) (n k : ℕ) (buf : List ℕ) (size : k ≡ min n (length whole)) where
+module _ (whole : List ℕ) (n k room : ℕ) (size : k ≡ min n (length whole)) (s : Stick) where
   long : length (take n whole) ≡ k
   long = length-take n whole ∙ sym size
 
-  pub answered-short : length buf < k → served (Err (Refused ShortBuffer)) buf ≡ answered whole n buf
-  answered-short lt = sym (cond-true (ltb (length buf) (length (take n whole))) _ _ (lt-ltb (length buf) (length (take n whole)) (omega (arith, long))))
+  pub cut-short : room < k → refuse ShortBuffer s ≡ answered n room whole s
+  cut-short lt = sym (cond-true (ltb room (length (take n whole))) (refuse ShortBuffer s) (outcome 0 (take n whole) s) (lt-ltb room (length (take n whole)) (omega (arith, long))))
 
-  pub answered-whole : (part : List ℕ) → k ≤ length buf → part ≡ take k whole → served (Ok k) (part ++ drop k buf) ≡ answered whole n buf
-  answered-whole part le is =
-      let bytes = take n whole in
-      let same : part ≡ bytes = is ∙ ap (λ j. take j whole) size ∙ take-min n whole in
-      ap (λ p. served (Ok k) (p ++ drop k buf)) same
-      ∙ ap (λ j. served (Ok j) (bytes ++ drop j buf)) (sym long)
-      ∙ sym (cond-false (ltb (length buf) (length bytes)) _ _ (le-ltb (length buf) (length bytes) (omega (arith, long))))
+  pub cut-whole : (most : ℕ) (bytes : List ℕ) → k ≤ room → length whole ≤ most → bytes ≡ take most (take n whole) → outcome 0 bytes s ≡ answered n room whole s
+  cut-whole most bytes le few is =
+      ap (λ b. outcome 0 b s) (is ∙ take-all most (take n whole) (omega (arith, long)))
+      ∙ sym (cond-false (ltb room (length (take n whole))) (refuse ShortBuffer s) (outcome 0 (take n whole) s) (le-ltb room (length (take n whole)) (omega (arith, long))))
 
--- what was copied to the front lies within the buffer
-pub front-within : (k w : ℕ) (part post buf : List ℕ) → w ≡ k → k ≤ length buf → length part ≡ length (take w buf) → k ≤ length (part ++ post)
-front-within k w part post buf e le l =
-    let long : length (take w buf) ≡ min w (length buf) = length-take w buf in
-    let whole : length (part ++ post) ≡ length part + length post = length-append part post in
-    omega arith
+pub cut-room : (whole : List ℕ) (n k room : ℕ) → k ≡ min n (length whole) → (most : ℕ) (bytes : List ℕ) → k ≤ room → bytes ≡ take most (take n whole) → length bytes ≤ room
+cut-room whole n k room size most bytes le is =
+    let a : length bytes ≡ length (take most (take n whole)) = ap length is in
+    omega (arith, length-take most (take n whole), length-take n whole)
+
+-- an answer at the front of the buffer, as a transfer
+pub delivered : (ds part rest bytes : List ℕ) (s : Stick) (o : Outcome) → outcome 0 bytes s ≡ o → part ≡ bytes → rest ≡ drop (length bytes) ds
+    → transferred 0 (take (length bytes) (part ++ rest)) (part ++ rest) s ≡ transferred (o .code) (o .answer) (o .answer ++ drop (length (o .answer)) ds) (o .next)
+delivered ds part rest bytes s o e copied left =
+    ap (λ p. transferred 0 (take (length bytes) (p ++ rest)) (p ++ rest) s) copied
+    ∙ ap (λ b. transferred 0 b (bytes ++ rest) s) (take-at bytes rest (length bytes) refl)
+    ∙ ap (λ r. transferred 0 bytes (bytes ++ r) s) left
+    ∙ ap (λ (x : Outcome). transferred (x .code) (x .answer) (x .answer ++ drop (length (x .answer)) ds) (x .next)) e
+
+pub front-within : (part rest bytes : List ℕ) → part ≡ bytes → length bytes ≤ length (part ++ rest)
+front-within part rest bytes copied = let l : length part ≡ length bytes = ap length copied in omega (arith, length-append part rest)

@@ -1,2 +1,4 @@
 pub mod Ups
 pub mod Fronts
+pub mod Present
+pub mod Alters

@@ -1,5 +1,7 @@
 // A stick over any medium, without power and running.
 // The two are types of their own, and each becomes the other: power-up takes one and yields the other, power-down takes it back.
+ghost use mathlib.Core.Path.{_≡_};
+
 pub mod control;
 pub mod power;
 
@@ -7,7 +9,6 @@ use interfaces::table::Interfaces;
 use layout::table::Layout;
 use medium::Medium;
 use model::ids::Phase;
-use model::refusal::Refusal;
 use units::rows::Rows;
 
 #[derive(Drop)]
@@ -24,11 +25,5 @@ pub struct Running<M: Medium> {
     interfaces: Interfaces,
     phase: Phase,
     medium: M,
-}
-
-// Why a control transfer answers nothing: a refusal, or a listed request that is not served yet.
-#[derive(Clone, Copy)]
-pub enum Declined {
-    Refused(Refusal),
-    Unsupported,
+    ghost paired: { interfaces .count ≡ layout .«interface_count» },
 }

@@ -63,9 +63,9 @@ compared-all stored n cand d short low c =
     let decides : Decides (eqb d 0) (take n stored ≡ cand) = (
       λ e. (let p = c .none (eqb-true d 0 e) in ap (λ k. take k stored) (p .0) ∙ p .1 ∙ all),
       λ e. (
-        let l : n ≡ length cand = (let q : length (take n stored) ≡ length cand = ap length e in omega (arith, length-take n stored)) in
-        eq-eqb d 0 (c .same l (ap (λ k. take k stored) (sym l) ∙ e ∙ sym all))
-      ),
+          let l : n ≡ length cand = (let q : length (take n stored) ≡ length cand = ap length e in omega (arith, length-take n stored)) in
+          eq-eqb d 0 (c .same l (ap (λ k. take k stored) (sym l) ∙ e ∙ sym all))
+          ),
     ) in
     same-from-decides (eqb d 0) (sameBytes (take n stored) cand) decides (sameBytes-decides (take n stored) cand)
 

@@ -8,9 +8,10 @@ use lib.ListN.{length, take, drop, replicate}
 use Rattle.std.specs.declared.result.Result.{Result}
 use Rattle.std.specs.declared.result.Result.the-variants.{Ok, Err}
 use Rattle.std.specs.shelf.Text.{sameBytes}
+use Rattle.formats.specs.Standings.{standing-by}
 use Rattle.model.specs.Puts.{Turn, turn}
 use Rattle.model.specs.Refusals.{refusal-number}
-use Rattle.model.specs.Units.{Standing, impersonal, locked, unlocked, recovering, UnitRecord, unit-record, holds-phrase, is-locked}
+use Rattle.model.specs.Units.{Standing, UnitRecord, unit-record, holds-phrase, is-locked}
 use Rattle.model.specs.declared.lock.LockState.{LockState}
 use Rattle.model.specs.declared.lock.LockState.the-variants.{Impersonal, Locked, Unlocked, Recovering}
 use Rattle.model.specs.declared.refusal.Refusal.{Refusal}
@@ -18,15 +19,9 @@ use Rattle.units.specs.declared.row.Quality.{Quality}
 use Rattle.units.specs.declared.row.Quality.the-variants as quality
 use Rattle.units.specs.declared.row.Row.{Row}
 
-abbrev pub standing-of : LockState → List ℕ → Standing
-standing-of Impersonal p = impersonal
-standing-of Locked p = locked p
-standing-of Unlocked p = unlocked p
-standing-of (Recovering d) p = recovering p d
-
 abbrev pub record-of : Row → UnitRecord
 record-of r =
-    unit-record (standing-of (r .state) (take (r .«phrase_len») (r .phrase))) (take (r .«hint_len») (r .hint)) (r .misses) (r .accepted) (r .sense)
+    unit-record (standing-by (r .state) (take (r .«phrase_len») (r .phrase))) (take (r .«hint_len») (r .hint)) (r .misses) (r .accepted) (r .sense)
 
 -- an array of w bytes of which n are in use, the others being zeros
 abbrev pub tidy : ℕ → ℕ → List ℕ → Bool

@@ -5,3 +5,4 @@ mod puts;
 pub mod row;
 pub mod rows;
 pub mod table;
+pub mod tell;

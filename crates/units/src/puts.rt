@@ -9,9 +9,10 @@ ghost use lib.ListN.{length, take};
 ghost use Rattle.std.specs.declared.result.Result.the-variants.{Ok, Err};
 ghost use Rattle.std.specs.shelf.Text.{sameBytes};
 ghost use Rattle.formats.specs.Carries.{fits-record, put-of};
+ghost use Rattle.formats.specs.Standings.{standing-by};
 ghost use Rattle.model.specs.Puts.{refused, missed, done, kept, turned};
 ghost use Rattle.model.specs.Units.{impersonal, unlocked};
-ghost use Rattle.units.specs.Records.{record-of, sound-row, turn-of, standing-of, tidy, vacant};
+ghost use Rattle.units.specs.Records.{record-of, sound-row, turn-of, tidy, vacant};
 use crate::compare::is_same;
 use crate::row::HINT_BYTES;
 use crate::row::PHRASE_BYTES;
@@ -76,7 +77,7 @@ impl Row {
     // Accepted, with another state; the record stays.
     fn accept(&mut self, state: LockState) -> Result<(), Refusal>
         requires { ⌜ vacant state (now self .«phrase_len») (now self .«hint_len») ≡ true ⌝ }
-        ensures turn { λ r. ⌜ turn-of r (now (self .exit)) ≡ kept (standing-of state (take (now (self .entry) .«phrase_len») (now (self .entry) .phrase))) (record-of (now (self .entry))) ⌝ }
+        ensures turn { λ r. ⌜ turn-of r (now (self .exit)) ≡ kept (standing-by state (take (now (self .entry) .«phrase_len») (now (self .entry) .phrase))) (record-of (now (self .entry))) ⌝ }
         ensures sound { λ _. ⌜ (sound-row (now (self .entry)) ≡ true → sound-row (now (self .exit)) ≡ true) ⌝ }
     {
         self.state = state;
@@ -134,10 +135,24 @@ impl Row {
     {
         match (self.state, put) {
             (_, UnitPut::Misfit) => self.refuse(Refusal::WrongLength),
-            (_, UnitPut::Malformed { put: Put::EraseForgottenPassphrase | Put::LockAgain | Put::ChangeInterfaceAccess }) => self.refuse(Refusal::WrongLength),
+            (
+                _,
+                UnitPut::Malformed {
+                    put: Put::EraseForgottenPassphrase
+                    | Put::LockAgain
+                    | Put::ChangeInterfaceAccess,
+                },
+            ) => self.refuse(Refusal::WrongLength),
             (LockState::Recovering { .. }, _) => Err(Refusal::Recovering),
-            (LockState::Impersonal, UnitPut::Store { phrase, hint }) if do_fit(phrase, hint) => self.keep(phrase, hint),
-            (LockState::Impersonal, UnitPut::Store { .. } | UnitPut::Malformed { put: Put::StorePassphrase }) => self.refuse(Refusal::Malformed),
+            (LockState::Impersonal, UnitPut::Store { phrase, hint }) if do_fit(phrase, hint) =>
+                self.keep(phrase, hint),
+            (
+                LockState::Impersonal,
+                UnitPut::Store { .. }
+                | UnitPut::Malformed {
+                    put: Put::StorePassphrase,
+                },
+            ) => self.refuse(Refusal::Malformed),
             (LockState::Impersonal, _) => self.refuse(Refusal::WrongState),
             (LockState::Locked, UnitPut::Match { candidate }) => {
                 if self.is_correct(candidate) {
@@ -146,10 +161,24 @@ impl Row {
                     self.miss()
                 }
             }
-            (LockState::Locked, UnitPut::Malformed { put: Put::MatchPassphrase }) => self.refuse(Refusal::Malformed),
-            (LockState::Locked, UnitPut::EraseForgotten) => self.accept(LockState::Recovering { steps_done: 0 }),
+            (
+                LockState::Locked,
+                UnitPut::Malformed {
+                    put: Put::MatchPassphrase,
+                },
+            ) => self.refuse(Refusal::Malformed),
+            (LockState::Locked, UnitPut::EraseForgotten) => self.accept(LockState::Recovering {
+                steps_done: 0,
+            }),
             (LockState::Locked, _) => self.refuse(Refusal::WrongState),
-            (LockState::Unlocked, UnitPut::Change { candidate, phrase, hint }) if do_fit(phrase, hint) => {
+            (
+                LockState::Unlocked,
+                UnitPut::Change {
+                    candidate,
+                    phrase,
+                    hint,
+                },
+            ) if do_fit(phrase, hint) => {
                 if self.is_correct(candidate) {
                     self.keep(phrase, hint)
                 } else {
@@ -163,8 +192,16 @@ impl Row {
                     self.miss()
                 }
             }
-            (LockState::Unlocked, UnitPut::Change { .. } | UnitPut::Malformed { put: Put::ChangePassphrase | Put::ErasePassphrase }) => self.refuse(Refusal::Malformed),
-            (LockState::Unlocked, UnitPut::LockAgain) if negotiable => self.accept(LockState::Locked),
+            (
+                LockState::Unlocked,
+                UnitPut::Change { .. }
+                | UnitPut::Malformed {
+                    put: Put::ChangePassphrase | Put::ErasePassphrase,
+                },
+            ) => self.refuse(Refusal::Malformed),
+            (LockState::Unlocked, UnitPut::LockAgain) if negotiable => self.accept(
+                LockState::Locked,
+            ),
             (LockState::Unlocked, _) => self.refuse(Refusal::WrongState),
         }
     }

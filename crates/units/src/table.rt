@@ -64,7 +64,12 @@ pub fn is_any(rows: &[Row], quality: Quality) -> bool
 
 impl Rows {
     // A Put to the unit with this number; the other rows stay. There is no unit past the table.
-    pub fn put_to(&mut self, index: usize, put: UnitPut<'_>, negotiable: bool) -> Result<(), Refusal>
+    pub fn put_to(
+        &mut self,
+        index: usize,
+        put: UnitPut<'_>,
+        negotiable: bool,
+    ) -> Result<(), Refusal>
         ensures code { λ r. ⌜ result-code r ≡ cond (ltb index 16) (turned negotiable (put-of (put .entry)) (getD (records-of (now (self .entry))) index new-unit) .code) (refusal-number Absent) ⌝ }
         ensures after { λ _. ⌜ records-of (now (self .exit)) ≡ alter index (λ u. turned negotiable (put-of (put .entry)) u .after) (records-of (now (self .entry))) ⌝ }
     {

@@ -44,7 +44,8 @@ const NO_INTERFACE: Interface = Interface {
 
 // The interfaces at power-up. Units are numbered through, interface 0 first.
 fn interfaces_up(layout: &Layout, units: &Rows) -> Interfaces
-    ensures { λ r. ⌜ interfaces-of r ≡ map (interface-up (layout-of (now (layout .entry))) (units-in (now (layout .entry)) (now (units .entry)))) (counting 0 (length (layout-of (now (layout .entry)) .counts))) ⌝ }
+    ensures list { λ r. ⌜ interfaces-of r ≡ map (interface-up (layout-of (now (layout .entry))) (units-in (now (layout .entry)) (now (units .entry)))) (counting 0 (length (layout-of (now (layout .entry)) .counts))) ⌝ }
+    ensures count { λ r. ⌜ r .count ≡ now (layout .entry) .«interface_count» ⌝ }
 {
     let mut list = [NO_INTERFACE; 4];
     let mut first = 0;

@@ -32,5 +32,5 @@ returns c =
     let w = unit-within (layout-of l) (l .«unit_counts») (l .«interface_count») (c .args .interface) (c .args .unit) refl (l .«each_counted») (l .«unit_count») (l .«all_units») (c .if-i-self .left) (c .if-unit-self .left) in
     record {
       value = ap (λ f. Some (f + c .args .unit)) (c .first-unit .ensures) ∙ unit-found (layout-of l) (l .«unit_counts») (l .«interface_count») (c .args .interface) (c .args .unit) refl (l .«each_counted») (c .if-i-self .left) (c .if-unit-self .left);
-      bound = subst (λ (f : ℕ). f + c .args .unit < l .«unit_count») (sym (c .first-unit .ensures)) w;
+      bound = (subst (λ (f : ℕ). f + c .args .unit < l .«unit_count») (sym (c .first-unit .ensures)) w, c .if-i-self .left);
     }

@@ -16,6 +16,6 @@ returns g c =
     let units = ap (take (l .«unit_count»)) (c .power-up .ensures) ∙ take-map powered (l .«unit_count») (records-of (c .args .self .units)) in
     record {
       stick = ap (λ us. stick us (interfaces-of (c .interfaces-up-interfaces .result)) Present m) units
-          ∙ ap (λ is. stick (map powered (take (l .«unit_count») (records-of (c .args .self .units)))) is Present m) (c .interfaces-up-interfaces .ensures);
+          ∙ ap (λ is. stick (map powered (take (l .«unit_count») (records-of (c .args .self .units)))) is Present m) (c .interfaces-up-interfaces .ensures .list);
       layout = refl;
     }

@@ -47,4 +47,4 @@ loop-i-again c =
 pub returns : need.returns
 returns c =
     let l = c .args .layout .now in
-    upped-all (layout-of l) (l .«unit_counts») (l .«interface_count») (l .«unit_count») (records-of (c .args .units .now)) refl (l .«all_units») (c .loop-i .i) (c .loop-i .first) (c .loop-i .list) (search needs) (l .«few_interfaces») (l .«each_counted») (c .loop-i .inv)
+    record { list = upped-all (layout-of l) (l .«unit_counts») (l .«interface_count») (l .«unit_count») (records-of (c .args .units .now)) refl (l .«all_units») (c .loop-i .i) (c .loop-i .first) (c .loop-i .list) (search needs) (l .«few_interfaces») (l .«each_counted») (c .loop-i .inv); count = refl }
