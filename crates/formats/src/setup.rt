@@ -2,7 +2,8 @@
 // Taken apart by patterns, and judged by themselves.
 ghost use mathlib.Core.Path.{_≡_};
 ghost use Rattle.model.specs.Bytes.{between};
-ghost use Rattle.model.specs.Requests.{put-told, descriptor-asked, requested, length-allowed, judged-setup, is-reading, shortest, longest};
+ghost use Rattle.std.specs.Options.{Cases as BySome};
+ghost use Rattle.model.specs.Requests.{put-number, put-told, descriptor-asked, requested, length-allowed, judged-setup, is-reading, shortest, longest};
 use model::refusal::Refusal;
 use model::request::Asked;
 use model::request::Put;
@@ -32,7 +33,8 @@ const DEVICE: u16 = 0x0100;
 const CONFIGURATION: u16 = 0x0200;
 
 fn put_told(code: u8) -> Option<Put>
-    ensures { λ r. ⌜ r ≡ put-told code ⌝ }
+    ensures told { λ r. ⌜ r ≡ put-told code ⌝ }
+    ensures number { λ r. ⌜ BySome r (Unit {0}) (λ p. put-number p ≡ code) ⌝ }
 {
     match code {
         0x01 => Some(Put::StorePassphrase),

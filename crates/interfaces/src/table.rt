@@ -19,7 +19,7 @@ pub const LONGEST_BUNDLE: usize = 113;
 
 #[derive(Clone, Copy)]
 pub struct Bundle {
-    pub bytes: [u8; 113],
-    pub len: usize,
+    pub(crate) bytes: [u8; 113],
+    pub(crate) len: usize,
     ghost within: { len ≤ 113 },
 }

@@ -3,7 +3,7 @@
 ghost use mathlib.Core.Path.{_≡_};
 ghost use mathlib.Core.Bool.{true, cond};
 ghost use Prim.Native.Nat.{_≤_, _+_, _*_};
-ghost use lib.ListN.{length, take};
+ghost use lib.ListN.{length, take, drop, replicate};
 ghost use Rattle.std.specs.Options.{Cases as BySome};
 ghost use Rattle.std.specs.declared.option.Option.the-variants.{Some, None};
 ghost use Rattle.std.specs.declared.result.Result.the-variants.{Ok, Err};
@@ -54,7 +54,8 @@ fn units_of(counts: &[u8]) -> Option<usize>
 // The counts in a table, with zeros behind them.
 fn count_table(counts: &[u8]) -> [u8; 4]
     requires { ⌜ length (now counts) ≤ 4 ⌝ }
-    ensures { λ r. ⌜ take (length (now (counts .entry))) r ≡ now (counts .entry) ⌝ }
+    ensures front { λ r. ⌜ take (length (now (counts .entry))) r ≡ now (counts .entry) ⌝ }
+    ensures rest { λ r. ⌜ drop (length (now (counts .entry))) r ≡ drop (length (now (counts .entry))) (replicate 4 0) ⌝ }
 {
     let mut table = [0; MOST_INTERFACES];
     let n = counts.len();
@@ -65,7 +66,8 @@ fn count_table(counts: &[u8]) -> [u8; 4]
 // The places of `count` units.
 fn read_places(bytes: &[u8], count: usize) -> [Place; 16]
     requires { ⌜ count ≤ 16 ⌝ ∗ ⌜ length (now bytes) ≡ 8 * count ⌝ }
-    ensures { λ r. ⌜ take count r ≡ pairs count (now (bytes .entry)) ⌝ }
+    ensures front { λ r. ⌜ take count r ≡ pairs count (now (bytes .entry)) ⌝ }
+    ensures rest { λ r. ⌜ drop count r ≡ drop count (replicate 16 (place 0 0)) ⌝ }
 {
     let mut places = [NO_PLACE; MOST_UNITS];
     for i in 0..count {

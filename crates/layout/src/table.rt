@@ -2,8 +2,8 @@
 // In a file of its own, so that definitions may name it.
 ghost use mathlib.Core.Path.{_≡_};
 ghost use Prim.Native.Nat.{_≤_, _%_};
-ghost use lib.ListN.{length, take};
-ghost use Rattle.model.specs.Layouts.{sum};
+ghost use lib.ListN.{length, take, drop, replicate};
+ghost use Rattle.model.specs.Layouts.{sum, place};
 use model::layout::Place;
 
 pub const MOST_INTERFACES: usize = 4;
@@ -23,5 +23,7 @@ pub struct Layout {
     ghost each_counted: { «interface_count» ≤ length «unit_counts» },
     ghost few_units: { «unit_count» ≤ 16 },
     ghost all_units: { «unit_count» ≡ sum (take «interface_count» «unit_counts») },
+    ghost no_more_counts: { drop «interface_count» «unit_counts» ≡ drop «interface_count» (replicate 4 0) },
+    ghost no_more_places: { drop «unit_count» places ≡ drop «unit_count» (replicate 16 (place 0 0)) },
     ghost aligned: { «product_base» % 16 ≡ 0 },
 }

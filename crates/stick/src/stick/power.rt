@@ -66,6 +66,7 @@ impl<M: Medium> Unpowered<M> {
         ensures layout { λ r. ⌜ layout-of (r .layout) ≡ fitted-layout (now («layout_bytes» .entry)) (length (meaning medium)) ⌝ }
         ensures units { λ r. ⌜ units-in (r .layout) (r .units) ≡ fitted-units (fitted-layout (now («layout_bytes» .entry)) (length (meaning medium))) ⌝ }
         ensures medium { λ r. ⌜ meaning (r .medium) ≡ meaning medium ⌝ }
+        ensures same { λ r. ⌜ r .medium ≡ «medium» ⌝ }
     {
         let end = medium.blocks();
         let layout = Layout::fit(layout_bytes, end);
@@ -80,6 +81,7 @@ impl<M: Medium> Unpowered<M> {
     pub fn power_up(self) -> Running<M>
         ensures stick { λ r. ⌜ stick-of meaning r ≡ powered-up (layout-of (self .layout)) (units-in (self .layout) (self .units)) (meaning (self .medium)) ⌝ }
         ensures layout { λ r. ⌜ layout-of (r .layout) ≡ layout-of (self .layout) ⌝ }
+        ensures same { λ r. ⌜ r .medium ≡ self .medium ⌝ }
     {
         let Unpowered {
             layout,
@@ -104,6 +106,7 @@ impl<M: Medium> Running<M> {
         ensures layout { λ r. ⌜ layout-of (r .layout) ≡ layout-of (self .layout) ⌝ }
         ensures units { λ r. ⌜ units-in (r .layout) (r .units) ≡ stick-of meaning self .units ⌝ }
         ensures medium { λ r. ⌜ meaning (r .medium) ≡ stick-of meaning self .blocks ⌝ }
+        ensures same { λ r. ⌜ r .medium ≡ self .medium ⌝ }
     {
         let Running {
             layout,
@@ -123,6 +126,7 @@ impl<M: Medium> Running<M> {
     pub fn power_cycle(self) -> Running<M>
         ensures stick { λ r. ⌜ stick-of meaning r ≡ repowered (layout-of (self .layout)) (stick-of meaning self) ⌝ }
         ensures layout { λ r. ⌜ layout-of (r .layout) ≡ layout-of (self .layout) ⌝ }
+        ensures same { λ r. ⌜ r .medium ≡ self .medium ⌝ }
     {
         self.power_down().power_up()
     }
@@ -132,6 +136,7 @@ impl<M: Medium> Running<M> {
 pub fn start<M: Medium>(medium: M, layout_bytes: &[u8]) -> Running<M>
     ensures stick { λ r. ⌜ stick-of meaning r ≡ first (fitted-layout (now («layout_bytes» .entry)) (length (meaning medium))) (meaning medium) ⌝ }
     ensures layout { λ r. ⌜ layout-of (r .layout) ≡ fitted-layout (now («layout_bytes» .entry)) (length (meaning medium)) ⌝ }
+    ensures same { λ r. ⌜ r .medium ≡ «medium» ⌝ }
 {
     Unpowered::fit(medium, layout_bytes).power_up()
 }

@@ -4,7 +4,7 @@ use Prim.Native.Nat.{ℕ, _+_, _*_, _%_, _-_}
 use native.Mathlib.Omega.{arith}
 use borrow.Author.Needs.{needs}
 use lib.Dec.{eqb}
-use lib.ListN.{length, take, drop}
+use lib.ListN.{length, take, drop, replicate}
 use Rattle.std.specs.declared.option.Option.the-variants.{Some}
 use Rattle.std.proofs.shelf.Tests.{ne-eqb, eq-eqb}
 use Rattle.std.proofs.shelf.Ways.{tells}
@@ -44,7 +44,7 @@ returns-then-not-are-placed c =
     let n = c .in-Continue-unit-count .unit-count in
     let told = some-counted (all-between 1 4 (c .split-at .result .0 .now)) (sum (c .split-at .result .0 .now)) n (c .in-Continue-unit-count .ensures tt .value) in
     let total : n ≡ sum (counts-in bs) = told .1 ∙ ap sum cs in
-    let read : take n (c .read-places-places .result) ≡ pairs (sum (counts-in bs)) (pairs-in bs) = c .read-places-places .ensures ∙ ap (pairs n) ps ∙ ap (λ k. pairs k (pairs-in bs)) total in
+    let read : take n (c .read-places-places .result) ≡ pairs (sum (counts-in bs)) (pairs-in bs) = c .read-places-places .ensures .front ∙ ap (pairs n) ps ∙ ap (λ k. pairs k (pairs-in bs)) total in
     bad-places bs (c .args .blocks) (ap (sound place-start place-count 0 (c .args .blocks)) (sym read) ∙ sym (c .if-not-are-placed .ensures tt))
 
 pub ghost-result : need.ghost-result
@@ -53,8 +53,9 @@ ghost-result c =
     let counts = c .split-at .result .0 .now in
     let told = some-counted (all-between 1 4 counts) (sum counts) n (c .in-Continue-unit-count .ensures tt .value) in
     let table : take (byte (c .args .bytes .now) 6) (c .count-table-unit-counts .result) ≡ counts =
-    ap (λ k. take k (c .count-table-unit-counts .result)) (sym (c .split-at .ensures .front-len)) ∙ c .count-table-unit-counts .ensures in
-    (search needs, (front-within (byte (c .args .bytes .now) 6) (c .count-table-unit-counts .result) counts table (c .split-at .ensures .front-len), (c .in-Continue-unit-count .ensures tt .bound, (told .1 ∙ ap sum (sym table), (search needs, tt)))))
+    ap (λ k. take k (c .count-table-unit-counts .result)) (sym (c .split-at .ensures .front-len)) ∙ c .count-table-unit-counts .ensures .front in
+    let more = ap (λ k. drop k (c .count-table-unit-counts .result)) (sym (c .split-at .ensures .front-len)) ∙ c .count-table-unit-counts .ensures .rest ∙ ap (λ k. drop k (replicate 4 0)) (c .split-at .ensures .front-len) in
+    (search needs, (front-within (byte (c .args .bytes .now) 6) (c .count-table-unit-counts .result) counts table (c .split-at .ensures .front-len), (c .in-Continue-unit-count .ensures tt .bound, (told .1 ∙ ap sum (sym table), (more, (c .read-places-places .ensures .rest, (search needs, tt)))))))
 
 pub returns : need.returns
 returns c =
@@ -64,9 +65,9 @@ returns c =
     let n = c .in-Continue-unit-count .unit-count in
     let told = some-counted (all-between 1 4 (c .split-at .result .0 .now)) (sum (c .split-at .result .0 .now)) n (c .in-Continue-unit-count .ensures tt .value) in
     let total : n ≡ sum (counts-in bs) = told .1 ∙ ap sum cs in
-    let read : take n (c .read-places-places .result) ≡ pairs (sum (counts-in bs)) (pairs-in bs) = c .read-places-places .ensures ∙ ap (pairs n) ps ∙ ap (λ k. pairs k (pairs-in bs)) total in
+    let read : take n (c .read-places-places .result) ≡ pairs (sum (counts-in bs)) (pairs-in bs) = c .read-places-places .ensures .front ∙ ap (pairs n) ps ∙ ap (λ k. pairs k (pairs-in bs)) total in
     let table : take (byte bs 6) (c .count-table-unit-counts .result) ≡ counts-in bs =
-    ap (λ k. take k (c .count-table-unit-counts .result)) (sym (c .split-at .ensures .front-len)) ∙ c .count-table-unit-counts .ensures ∙ cs in
+    ap (λ k. take k (c .count-table-unit-counts .result)) (sym (c .split-at .ensures .front-len)) ∙ c .count-table-unit-counts .ensures .front ∙ cs in
     let few : between 1 4 (byte bs 6) ≡ true = grind (arith, tells) in
     let even : eqb (le16 bs 2 % 16) 0 ≡ true = search needs in
     let whole : length bs ≡ 7 + byte bs 6 + 8 * sum (counts-in bs) = omega arith in

@@ -17,4 +17,5 @@ returns g c =
       layout = fitted;
       units = ap (take (l .«unit_count»)) (c .new .ensures) ∙ take-replicate (l .«unit_count») 16 new-unit (l .«few_units») ∙ ap (λ n. replicate n new-unit) (l .«all_units») ∙ ap fitted-units fitted;
       medium = refl;
+      same = refl;
     }

@@ -18,4 +18,5 @@ returns g c =
       stick = ap (λ us. stick us (interfaces-of (c .interfaces-up-interfaces .result)) Present m) units
           ∙ ap (λ is. stick (map powered (take (l .«unit_count») (records-of (c .args .self .units)))) is Present m) (c .interfaces-up-interfaces .ensures .list);
       layout = refl;
+      same = refl;
     }

@@ -19,4 +19,5 @@ returns g c =
           ∙ ap (powered-up lay (fitted-units lay)) (c .fit .ensures .medium)
           ∙ first-power-up lay m;
       layout = c .power-up .ensures .layout ∙ c .fit .ensures .layout;
+      same = c .power-up .ensures .same ∙ c .fit .ensures .same;
     }
