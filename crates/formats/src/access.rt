@@ -4,8 +4,10 @@ ghost use mathlib.Core.Path.{_≡_};
 ghost use Rattle.std.specs.Options.{mapped};
 ghost use Rattle.model.specs.Parts.{target-in, access-in};
 ghost use Rattle.formats.specs.Accesses.{access-of};
-use crate::codes::LOCKABLE;
 use model::ids::Ids;
+
+// The descriptor type of the locking protocol: the second byte of Lock Data, of access data and of every part.
+const LOCKABLE: u8 = 0x25;
 
 // bLength of the data, and the interface protocol that both identities have.
 const ACCESS_LENGTH: u8 = 0x0C;

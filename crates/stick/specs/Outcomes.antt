@@ -4,8 +4,8 @@ use Prim.Native.Nat.{ℕ}
 use lib.ListN.{take}
 use Rattle.std.specs.declared.result.Result.{Result}
 use Rattle.std.specs.declared.result.Result.the-variants.{Ok, Err}
-use Rattle.formats.specs.Answers.{answer-of}
-use Rattle.formats.specs.declared.answer.Answer.{Answer}
+use Rattle.answers.specs.Answers.{answer-of}
+use Rattle.answers.specs.declared.answer.Answer.{Answer}
 use Rattle.model.specs.Control.{Outcome, outcome, refuse, Transferred, transferred}
 use Rattle.model.specs.Refusals.{refusal-number}
 use Rattle.model.specs.Sticks.{Stick}

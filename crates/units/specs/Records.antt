@@ -8,7 +8,7 @@ use lib.ListN.{length, take, drop, replicate}
 use Rattle.std.specs.declared.result.Result.{Result}
 use Rattle.std.specs.declared.result.Result.the-variants.{Ok, Err}
 use Rattle.std.specs.shelf.Text.{sameBytes}
-use Rattle.formats.specs.Standings.{standing-by}
+use Rattle.answers.specs.Standings.{standing-by}
 use Rattle.model.specs.Puts.{Turn, turn}
 use Rattle.model.specs.Refusals.{refusal-number}
 use Rattle.model.specs.Units.{Standing, UnitRecord, unit-record, holds-phrase, is-locked}

@@ -8,8 +8,8 @@ ghost use lib.Dec.{ltb};
 ghost use lib.ListN.{length, take};
 ghost use Rattle.std.specs.declared.result.Result.the-variants.{Ok, Err};
 ghost use Rattle.std.specs.shelf.Text.{sameBytes};
-ghost use Rattle.formats.specs.Carries.{fits-record, put-of};
-ghost use Rattle.formats.specs.Standings.{standing-by};
+ghost use Rattle.parts.specs.Carries.{fits-record, put-of};
+ghost use Rattle.answers.specs.Standings.{standing-by};
 ghost use Rattle.model.specs.Puts.{refused, missed, done, kept, turned};
 ghost use Rattle.model.specs.Units.{impersonal, unlocked};
 ghost use Rattle.units.specs.Records.{record-of, sound-row, turn-of, tidy, vacant};
@@ -17,10 +17,10 @@ use crate::compare::is_same;
 use crate::row::HINT_BYTES;
 use crate::row::PHRASE_BYTES;
 use crate::row::Row;
-use formats::put::UnitPut;
 use model::lock::LockState;
 use model::refusal::Refusal;
 use model::request::Put;
+use parts::put::UnitPut;
 
 const MOST_MISSES: u8 = 10;
 

@@ -5,7 +5,7 @@ ghost use mathlib.Core.Bool.{cond};
 ghost use mathlib.Core.List.{map};
 ghost use lib.Dec.{ltb};
 ghost use lib.ListN.{getD, replicate};
-ghost use Rattle.formats.specs.Carries.{put-of};
+ghost use Rattle.parts.specs.Carries.{put-of};
 ghost use Rattle.model.specs.Control.{alter};
 ghost use Rattle.model.specs.Puts.{turned};
 ghost use Rattle.model.specs.Refusals.{refusal-number};
@@ -16,8 +16,8 @@ ghost use Rattle.units.specs.Tables.{records-of};
 use crate::row::Quality;
 use crate::row::Row;
 use crate::rows::Rows;
-use formats::put::UnitPut;
 use model::refusal::Refusal;
+use parts::put::UnitPut;
 
 const MOST_UNITS: usize = 16;
 

@@ -2,16 +2,16 @@
 ghost use mathlib.Core.Bool.{true};
 ghost use mathlib.Core.Path.{_≡_};
 ghost use lib.ListN.{getD};
-ghost use Rattle.formats.specs.Answers.{answer-of};
+ghost use Rattle.answers.specs.Answers.{answer-of};
 ghost use Rattle.model.specs.LockData.{lock-data};
 ghost use Rattle.model.specs.Units.{new-unit};
 ghost use Rattle.units.specs.Records.{record-of, sound-row};
 ghost use Rattle.units.specs.Tables.{records-of};
 use crate::row::Row;
 use crate::rows::Rows;
-use formats::answer::Answer;
-use formats::lock_data::LockFacts;
-use formats::lock_data::lock_data;
+use answers::answer::Answer;
+use answers::lock_data::LockFacts;
+use answers::lock_data::lock_data;
 
 const MOST_UNITS: usize = 16;
 

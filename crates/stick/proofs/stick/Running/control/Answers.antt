@@ -4,7 +4,7 @@ use Prim.Native.Nat.{_-_}
 use native.Mathlib.Omega.{arith}
 use borrow.Author.Needs.{needs}
 use lib.ListN.{length, drop}
-use Rattle.formats.specs.Answers.{answer-of}
+use Rattle.answers.specs.Answers.{answer-of}
 use Rattle.layout.specs.Tables.{layout-of}
 use Rattle.model.specs.Control.{outcome, served}
 use Rattle.model.specs.Requests.{is-reading}

@@ -6,7 +6,7 @@ use native.Mathlib.Omega.{arith}
 use borrow.Author.Needs.{needs}
 use lib.Dec.{ltb}
 use lib.ListN.{length, getD, take}
-use Rattle.formats.specs.Carries.{put-of}
+use Rattle.parts.specs.Carries.{put-of}
 use Rattle.layout.specs.Tables.{layout-of}
 use Rattle.model.specs.Control.{Outcome, outcome, refuse, put-to-unit, interface-at, sized, unit-at, alter, with-units}
 use Rattle.model.specs.Identities.{is-negotiable}

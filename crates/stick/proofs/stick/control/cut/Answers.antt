@@ -3,7 +3,7 @@ use Prim.Native.Nat.{min}
 use native.Mathlib.Omega.{arith}
 use borrow.Author.Needs.{needs}
 use lib.ListN.{length}
-use Rattle.formats.specs.Answers.{answer-of}
+use Rattle.answers.specs.Answers.{answer-of}
 use Rattle.stick.proofs.Fronts.{cut-short, cut-whole, cut-room}
 use Rattle.stick.proofs.stick.control.cut.Needs as need
 

@@ -4,7 +4,7 @@ use Prim.Native.Nat.{ℕ, _≤_, _-_}
 use native.Mathlib.Omega.{arith}
 use borrow.Author.Needs.{needs}
 use lib.ListN.{take}
-use Rattle.formats.specs.Standings.{standing-by}
+use Rattle.answers.specs.Standings.{standing-by}
 use Rattle.model.specs.LockData.{lock-data}
 use Rattle.model.specs.Units.{unit-record}
 use Rattle.std.proofs.shelf.Lists.{take-take, take-all, length-take}

@@ -5,7 +5,7 @@ use native.Mathlib.Omega.{arith}
 use borrow.Author.Needs.{needs}
 use lib.Dec.{ltb}
 use lib.ListN.{length, getD}
-use Rattle.formats.specs.Carries.{put-of}
+use Rattle.parts.specs.Carries.{put-of}
 use Rattle.model.specs.Puts.{Turn, turned}
 use Rattle.model.specs.Units.{UnitRecord, new-unit}
 use Rattle.std.proofs.shelf.Lists.{length-map, length-set, getD-map}

@@ -1,0 +1,4 @@
+pub mod States
+pub mod Codes
+pub mod Unfit
+pub mod Judgements

@@ -1,0 +1,3 @@
+pub mod StateTable
+pub mod Agreement
+pub mod Examples
