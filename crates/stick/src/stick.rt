@@ -2,8 +2,10 @@
 // The two are types of their own, and each becomes the other: power-up takes one and yields the other, power-down takes it back.
 ghost use mathlib.Core.Path.{_≡_};
 
+mod changes;
 pub mod control;
 pub mod power;
+mod readings;
 
 use interfaces::table::Interfaces;
 use layout::table::Layout;

@@ -5,7 +5,7 @@ use borrow.Author.Needs.{needs}
 use lib.ListN.{length}
 use Rattle.answers.specs.Answers.{answer-of}
 use Rattle.stick.proofs.Fronts.{cut-short, cut-whole, cut-room}
-use Rattle.stick.proofs.stick.control.cut.Needs as need
+use Rattle.stick.proofs.stick.readings.cut.Needs as need
 
 pub returns-then-room-min : need.returns-then-room-min
 returns-then-room-min c =
