@@ -5,6 +5,6 @@ use Rattle.answers.proofs.answering.answer_from.Goals as goal
 pub returns : goal.returns
 returns c =
     record {
-      value = front_answer c.min-len.result 119 c.args.wanted c.args.bytes.now c.copy-from-slice.new.self _ c.copy-from-slice.ensures.after (search rules);
-      whole = front_whole c.min-len.result 119 c.args.wanted c.args.bytes.now c.copy-from-slice.new.self _ c.copy-from-slice.ensures.after (search rules);
+      value = front_answer c.min-len.result 119 c.args.wanted c.args.bytes.now c.copy_from_slice.new.self _ c.copy_from_slice.ensures.after (search rules);
+      whole = front_whole c.min-len.result 119 c.args.wanted c.args.bytes.now c.copy_from_slice.new.self _ c.copy_from_slice.ensures.after (search rules);
     }

@@ -5,7 +5,7 @@ use Rattle.answers.proofs.lock_data.write_parts.Goals as goal
 pub returns : goal.returns
 returns c =
     record {
-      front = three_parts c.args.head.now c.args.hint.now c.args.out.now c.copy-from-slice.new.self c.copy-from-slice-2.new.self _ 0
-          c.copy-from-slice.ensures.after c.copy-from-slice-2.ensures.after (omega arith) c.requires;
+      front = three_parts c.args.head.now c.args.hint.now c.args.out.now c.copy_from_slice.new.self c.copy_from_slice-2.new.self _ 0
+          c.copy_from_slice.ensures.after c.copy_from_slice-2.ensures.after (omega arith) c.requires;
       size = refl;
     }
