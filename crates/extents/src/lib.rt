@@ -20,27 +20,27 @@ pub trait Extent {
 
 // Ends are 64 bits wide, so that no sum wraps.
 fn end_of<E: Extent>(extent: &E) -> u64
-    ensures { result ≡ from extent.now + size extent.now }
+    ensures { result ≡ E.from extent.now + E.size extent.now }
 {
     u64::from(extent.start()) + u64::from(extent.length())
 }
 
 fn is_fitting<E: Extent>(extent: &E, low: u64, end: u32) -> bool
-    ensures { result ≡ fitting from size low end extent.now }
+    ensures { result ≡ fitting E.from E.size low end extent.now }
 {
     extent.length() > 0 && low <= u64::from(extent.start()) && end_of(extent) <= u64::from(end)
 }
 
 fn is_held<E: Extent>(extent: &E, position: u32) -> bool
-    ensures { result ≡ holds from size position extent.now }
+    ensures { result ≡ holds E.from E.size position extent.now }
 {
     extent.start() <= position && u64::from(position) < end_of(extent)
 }
 
 // Whether none is empty, all are sorted by start, none overlap and all end by `end`.
 pub fn is_sound<E: Extent>(extents: &[E], end: u32) -> bool
-    ensures value { result ≡ sound from size 0 end extents.now }
-    ensures decides { Decides result (Sound from size end extents.now) }
+    ensures value { result ≡ sound E.from E.size 0 end extents.now }
+    ensures decides { Decides result (Sound E.from E.size end extents.now) }
 {
     let mut low = 0;
     for extent in extents {
@@ -54,8 +54,8 @@ pub fn is_sound<E: Extent>(extents: &[E], end: u32) -> bool
 
 // The index of the first element that holds `position`, or none; over a list that passes the check, of the only one.
 pub fn find<E: Extent>(extents: &[E], position: u32) -> Option<usize>
-    ensures value { result ≡ found from size 0 position extents.now }
-    ensures finds { Finds from size position extents.now result }
+    ensures value { result ≡ found E.from E.size 0 position extents.now }
+    ensures finds { Finds E.from E.size position extents.now result }
 {
     for (i, extent) in extents.iter().enumerate() {
         if is_held(extent, position) {

@@ -5,8 +5,8 @@ use Rattle.extents.proofs.Along.{found_step}
 use Rattle.extents.proofs.Search.{found_finds}
 use Rattle.extents.proofs.find.Goals as goal
 
-pub returns-then-is-held : goal.returns-then-is-held
-returns-then-is-held g c =
+pub returns-then-is_held : goal.returns-then-is_held
+returns-then-is_held g c =
     let at = g.E.Extent.from in
     let len = g.E.Extent.size in
     let i = c.loop-i.i in
@@ -14,7 +14,7 @@ returns-then-is-held g c =
     let pos = c.args.position in
     let step = found_step at len pos xs i c.index-extents-i.result c.loop-i-test.true c.index-extents-i.is in
     let e : Some i ≡ found at len 0 pos xs =
-    ap (λ b. cond b (Some i) (found at len (i + 1) pos (drop (i + 1) xs))) c.if-is-held.ensures ∙ sym step ∙ c.loop-i.invariant in
+    ap (λ b. cond b (Some i) (found at len (i + 1) pos (drop (i + 1) xs))) c.if-is_held.ensures ∙ sym step ∙ c.loop-i.invariant in
     record { value = e; finds = subst (λ (r : Option ℕ). Finds at len pos xs r) (sym e) (found_finds at len pos xs) }
 
 pub loop-i-preserved : goal.loop-i-preserved
@@ -24,7 +24,7 @@ loop-i-preserved g c =
     let i = c.loop-i.i in
     let xs = c.args.extents.now in
     let step = found_step at len c.args.position xs i c.index-extents-i.result c.loop-i-test.true c.index-extents-i.is in
-    ap (λ b. cond b (Some i) (found at len (i + 1) c.args.position (drop (i + 1) xs))) c.if-is-held.ensures ∙ sym step ∙ c.loop-i.invariant
+    ap (λ b. cond b (Some i) (found at len (i + 1) c.args.position (drop (i + 1) xs))) c.if-is_held.ensures ∙ sym step ∙ c.loop-i.invariant
 
 pub returns : goal.returns
 returns g c =

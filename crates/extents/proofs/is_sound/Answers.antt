@@ -5,15 +5,15 @@ use Rattle.model.specs.Extents.{sound, Sound}
 use Rattle.extents.proofs.Along.{sound_step, sound_decides}
 use Rattle.extents.proofs.is_sound.Goals as goal
 
-pub returns-then-not-is-fitting : goal.returns-then-not-is-fitting
-returns-then-not-is-fitting g c =
+pub returns-then-not-is_fitting : goal.returns-then-not-is_fitting
+returns-then-not-is_fitting g c =
     let at = g.E.Extent.from in
     let len = g.E.Extent.size in
     let xs = c.args.extents.now in
     let x = c.extent-item.result in
     let step = sound_step at len c.loop-extent.low c.args.end xs c.loop-extent.extent-index x c.loop-extent-test.true c.extent-item.is in
     let no : false ≡ sound at len 0 c.args.end xs =
-    ap (λ b. b && sound at len (at x + len x) c.args.end (drop (c.loop-extent.extent-index + 1) xs)) c.if-not-is-fitting.ensures ∙ sym step ∙ c.loop-extent.invariant in
+    ap (λ b. b && sound at len (at x + len x) c.args.end (drop (c.loop-extent.extent-index + 1) xs)) c.if-not-is_fitting.ensures ∙ sym step ∙ c.loop-extent.invariant in
     record { value = no; decides = Decides-at false _ no (sound_decides at len c.args.end xs) }
 
 pub loop-extent-preserved : goal.loop-extent-preserved
@@ -24,8 +24,8 @@ loop-extent-preserved g c =
     let x = c.extent-item.result in
     let step = sound_step at len c.loop-extent.low c.args.end xs c.loop-extent.extent-index x c.loop-extent-test.true c.extent-item.is in
     let rest = drop (c.loop-extent.extent-index + 1) xs in
-    ap (λ n. sound at len n c.args.end rest) c.end-of-low.ensures
-    ∙ ap (λ b. b && sound at len (at x + len x) c.args.end rest) c.if-not-is-fitting.ensures
+    ap (λ n. sound at len n c.args.end rest) c.end_of-low.ensures
+    ∙ ap (λ b. b && sound at len (at x + len x) c.args.end rest) c.if-not-is_fitting.ensures
     ∙ sym step ∙ c.loop-extent.invariant
 
 pub returns : goal.returns

@@ -10,7 +10,7 @@ loop-i-preserved g c =
     let i = c.loop-i.i in
     let b = c.args.start + c.args.first in
     let far : c.args.start + (c.args.first + i) ≡ b + i = omega arith in
-    let after : g.M.Medium.meaning c.zero-block.new.medium ≡ written m (b + i) zs = c.zero-block.ensures ∙ ap (λ x. written m x zs) far in
+    let after : g.M.Medium.meaning c.zero_block.new.medium ≡ written m (b + i) zs = c.zero_block.ensures ∙ ap (λ x. written m x zs) far in
     subst (λ (x : List Block). Along m0 b c.args.count x (i + 1)) (sym after) (along_more m0 b c.args.count m i c.loop-i-test.true c.loop-i.invariant)
 
 pub returns : goal.returns

@@ -24,7 +24,7 @@ returns-in-Err g c =
     record {
       moved = e.0;
       short = c.loop-i-test.true;
-      buffer = putMid_back (512 * i) w buf c.read-unit.new.part (c.read-unit.ensures.buffer ∙ kept) ∙ e.1;
+      buffer = putMid_back (512 * i) w buf c.read_unit.new.part (c.read_unit.ensures.buffer ∙ kept) ∙ e.1;
     }
 
 pub loop-i-preserved : goal.loop-i-preserved
@@ -34,13 +34,13 @@ loop-i-preserved g c =
     let b = c.args.start + c.args.address in
     let far : c.args.start + (c.args.address + i) ≡ b + i = omega arith in
     let buf = c.loop-i.buffer in
-    let out = c.read-unit.new.part in
+    let out = c.read_unit.new.part in
     let w = 512 * i + 512 - 512 * i in
     let part = take w (drop (512 * i) buf) in
     let a : Along m b c.args.count c.args.buffer.now buf i = c.loop-i.invariant.0 in
     let k : 512 ≡ w = omega arith in
     let lo : length out ≡ 512 = search rules in
-    let seen = good_seen m (c.args.start + (c.args.address + i)) part out c.read-unit.ensures.buffer (sym c.in-Ok.ensures.answer) in (
+    let seen = good_seen m (c.args.start + (c.args.address + i)) part out c.read_unit.ensures.buffer (sym c.in-Ok.ensures.answer) in (
       subst (λ (v : ℕ). Along m b c.args.count c.args.buffer.now (put_mid (512 * i) v buf out) (i + 1)) k
           (along_more m b c.args.count c.args.buffer.now buf out i c.loop-i-test.true c.requires.0 lo (ap (λ x. get_or m x bad) (sym far) ∙ seen) a),
       omega (arith, c.loop-i-test.true),

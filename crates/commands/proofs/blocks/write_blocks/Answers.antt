@@ -22,7 +22,7 @@ returns-in-Err g c =
     record {
       moved = e.0;
       short = c.loop-i-test.true;
-      after = c.write-unit.ensures.after ∙ refused_write m at part c.in-Err.fault no ∙ e.1;
+      after = c.write_unit.ensures.after ∙ refused_write m at part c.in-Err.fault no ∙ e.1;
     }
 
 pub loop-i-preserved : goal.loop-i-preserved
@@ -37,8 +37,8 @@ loop-i-preserved g c =
     let w : 512 * i + 512 - 512 * i ≡ 512 = omega arith in
     let part = take (512 * i + 512 - 512 * i) (drop (512 * i) ds) in
     let there = good_there m at (length part) (sym c.in-Ok.ensures.answer) in
-    let after : g.M.Medium.meaning c.write-unit.new.medium ≡ written m (b + i) (take 512 (drop (512 * i) ds)) =
-    c.write-unit.ensures.after ∙ ap (λ x. written m x part) far ∙ ap (λ k. written m (b + i) (take k (drop (512 * i) ds))) w in (
+    let after : g.M.Medium.meaning c.write_unit.new.medium ≡ written m (b + i) (take 512 (drop (512 * i) ds)) =
+    c.write_unit.ensures.after ∙ ap (λ x. written m x part) far ∙ ap (λ k. written m (b + i) (take k (drop (512 * i) ds))) w in (
       subst (λ (x : List Block). Along m0 b c.args.count ds x (i + 1)) (sym after)
           (along_more m0 b c.args.count ds m there.0 i c.loop-i-test.true (ap (λ x. get_or m x bad) (sym far) ∙ there.1) c.loop-i.invariant.0),
       omega (arith, c.loop-i-test.true),

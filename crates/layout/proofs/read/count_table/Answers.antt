@@ -4,10 +4,10 @@ use Rattle.layout.proofs.read.count_table.Goals as goal
 
 pub returns : goal.returns
 returns c =
-    let after = c.copy-from-slice.ensures.after in
+    let after = c.copy_from_slice.ensures.after in
     let n = length c.args.counts.now in
     let all : n - 0 ≡ n = omega arith in
     record {
-      front = take_at c.copy-from-slice.new.self _ n (ap length after) ∙ after;
-      rest = drop_at c.copy-from-slice.new.self _ n (ap length after) ∙ ap (λ (k : ℕ). drop k (replicate 4 0)) all;
+      front = take_at c.copy_from_slice.new.self _ n (ap length after) ∙ after;
+      rest = drop_at c.copy_from_slice.new.self _ n (ap length after) ∙ ap (λ (k : ℕ). drop k (replicate 4 0)) all;
     }

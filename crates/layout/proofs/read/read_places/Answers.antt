@@ -8,9 +8,9 @@ use Rattle.layout.proofs.read.read_places.Goals as goal
 pub loop-i-preserved : goal.loop-i-preserved
 loop-i-preserved c =
     let room : c.loop-i.i < length c.loop-i.places = omega arith in (
-      pairs_more c.loop-i.places c.loop-i.i c.args.bytes.now c.place-at.result room c.place-at.ensures c.loop-i.invariant.0,
-      length-set c.loop-i.places c.loop-i.i c.place-at.result ∙ c.loop-i.invariant.1,
-      (λ k h. drop-set-lt k c.loop-i.places c.loop-i.i c.place-at.result (omega arith) ∙ c.loop-i.invariant.2 k (omega arith)),
+      pairs_more c.loop-i.places c.loop-i.i c.args.bytes.now c.place_at.result room c.place_at.ensures c.loop-i.invariant.0,
+      length-set c.loop-i.places c.loop-i.i c.place_at.result ∙ c.loop-i.invariant.1,
+      (λ k h. drop-set-lt k c.loop-i.places c.loop-i.i c.place_at.result (omega arith) ∙ c.loop-i.invariant.2 k (omega arith)),
     )
 
 pub returns : goal.returns

@@ -6,8 +6,8 @@ pub returns-then-block-count : goal.returns-then-block-count
 returns-then-block-count c =
     record { within = tt; answer = λ mem at. call_outside mem c.args.runs.now at c.args.count c.args.block c.args.length c.then-block-count.either }
 
-pub returns-then-is-bad : goal.returns-then-is-bad
-returns-then-is-bad c =
+pub returns-then-is_bad : goal.returns-then-is_bad
+returns-then-is_bad c =
     record { within = tt; answer = λ mem at. call_bad mem c.args.runs.now at c.args.count c.args.block c.args.length (search rules) (search rules) (search rules) }
 
 pub returns : goal.returns

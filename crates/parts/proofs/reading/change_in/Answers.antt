@@ -6,7 +6,7 @@ pub returns : goal.returns
 returns c =
     record {
       value = c.change_of.ensures.value
-          ∙ change_filled c.args.data.now c.part-bytes.result.now c.part-bytes-2.result.now c.part-bytes-3.result.now _
-          c.in-ok-candidate.ensures.value c.part-bytes.ensures c.part-bytes-2.ensures c.part-bytes-3.ensures;
+          ∙ change_filled c.args.data.now c.part_bytes.result.now c.part_bytes-2.result.now c.part_bytes-3.result.now _
+          c.in_ok-candidate.ensures.value c.part_bytes.ensures c.part_bytes-2.ensures c.part_bytes-3.ensures;
       bound = c.change_of.ensures.bound;
     }

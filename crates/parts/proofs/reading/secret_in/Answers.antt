@@ -6,7 +6,7 @@ pub returns : goal.returns
 returns c =
     record {
       value = c.secret_of.ensures.value
-          ∙ secret_filled c.args.data.now c.part-bytes.result.now c.part-bytes-2.result.now _ c.in-ok-phrase.ensures.value
-          c.part-bytes.ensures c.part-bytes-2.ensures;
+          ∙ secret_filled c.args.data.now c.part_bytes.result.now c.part_bytes-2.result.now _ c.in_ok-phrase.ensures.value
+          c.part_bytes.ensures c.part_bytes-2.ensures;
       bound = c.secret_of.ensures.bound;
     }

@@ -4,9 +4,9 @@ use Rattle.medium.proofs.Mapped.{mapped_same}
 use Rattle.turning.proofs.Turned.{within_start, distinct_start, spared_start}
 use Rattle.turning.proofs.fitting.fit.Goals as goal
 
-pub invariant-of-result : goal.invariant-of-result
-invariant-of-result c =
-    let n = c.unwrap-or-count.result in
+pub invariant_of-result : goal.invariant_of-result
+invariant_of-result c =
+    let n = c.unwrap_or-count.result in
     let pages = c.identity.result in
     let few : n ≤ 1024 = search rules in
     let is : (b : ℕ) → b < n → get_or pages b 0 ≡ b = λ b h. c.identity.ensures.places b (omega arith) in
@@ -14,7 +14,7 @@ invariant-of-result c =
 
 pub returns : goal.returns
 returns c =
-    let n = c.unwrap-or-count.result in
+    let n = c.unwrap_or-count.result in
     let pages = c.identity.result in
     let mem = c.args.memory.items in
     let runs = c.args.runs.items in

@@ -14,17 +14,17 @@ returns-then-unit-self c =
     let l = c.args.self.now in
     record { value = unit_absent (layout_of l) l.unit_counts l.interface_count c.args.interface c.args.unit refl l.each_counted (inr (c.if-i-self.false, c.if-unit-self.true)); bound = tt }
 
-pub overflow-add-result : goal.overflow-add-result
-overflow-add-result c =
+pub overflow_add-result : goal.overflow_add-result
+overflow_add-result c =
     let l = c.args.self.now in
     let w = unit_within (layout_of l) l.unit_counts l.interface_count c.args.interface c.args.unit refl l.each_counted l.unit_count l.all_units c.if-i-self.false c.if-unit-self.false in
-    omega (arith, l.few_units, c.first-unit.ensures)
+    omega (arith, l.few_units, c.first_unit.ensures)
 
 pub returns : goal.returns
 returns c =
     let l = c.args.self.now in
     let w = unit_within (layout_of l) l.unit_counts l.interface_count c.args.interface c.args.unit refl l.each_counted l.unit_count l.all_units c.if-i-self.false c.if-unit-self.false in
     record {
-      value = ap (λ f. Some (f + c.args.unit)) c.first-unit.ensures ∙ unit_found (layout_of l) l.unit_counts l.interface_count c.args.interface c.args.unit refl l.each_counted c.if-i-self.false c.if-unit-self.false;
-      bound = (subst (λ (f : ℕ). f + c.args.unit < l.unit_count) (sym c.first-unit.ensures) w, c.if-i-self.false);
+      value = ap (λ f. Some (f + c.args.unit)) c.first_unit.ensures ∙ unit_found (layout_of l) l.unit_counts l.interface_count c.args.interface c.args.unit refl l.each_counted c.if-i-self.false c.if-unit-self.false;
+      bound = (subst (λ (f : ℕ). f + c.args.unit < l.unit_count) (sym c.first_unit.ensures) w, c.if-i-self.false);
     }

@@ -10,7 +10,7 @@ returns c =
     let n = c.args.self.now.count in
     let b = c.args.block in
     let buf = c.args.buffer.now in
-    let ok = at_runs mem c.as-slice.result.now runs (λ k. k) n b (length buf) c.as-slice.ensures.value (c.in-ok-admit.ensures.answer mem (λ k. k)) in
+    let ok = at_runs mem c.as_slice.result.now runs (λ k. k) n b (length buf) c.as_slice.ensures.value (c.in_ok-admit.ensures.answer mem (λ k. k)) in
     let w : 512 * b + 512 - 512 * b ≡ 512 = omega arith in
-    let e : c.copy-from-slice.new.self ≡ page mem b = search rules in
+    let e : c.copy_from_slice.new.self ≡ page mem b = search rules in
     record { answer = ok; buffer = e ∙ read_mapped mem runs (λ k. k) n b buf ok }

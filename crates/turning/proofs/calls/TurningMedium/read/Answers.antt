@@ -11,7 +11,7 @@ returns c =
     let at : ℕ → ℕ = λ k. get_or c.args.self.now.pages k 0 in
     let b = c.args.block in
     let buf = c.args.buffer.now in
-    let ok = at_runs mem c.as-slice.result.now runs at n b (length buf) c.as-slice.ensures.value (c.in-ok-admit.ensures.answer mem at) in
+    let ok = at_runs mem c.as_slice.result.now runs at n b (length buf) c.as_slice.ensures.value (c.in_ok-admit.ensures.answer mem at) in
     let w : 512 * c.from-at.result + 512 - 512 * c.from-at.result ≡ 512 = omega arith in
-    let e : c.copy-from-slice.new.self ≡ page mem (at b) = search rules in
+    let e : c.copy_from_slice.new.self ≡ page mem (at b) = search rules in
     record { answer = ok; buffer = e ∙ read_mapped mem runs at n b buf ok }
