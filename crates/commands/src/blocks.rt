@@ -13,8 +13,8 @@ const PAGE: usize = 512;
 
 // The block at an address of the unit that starts here.
 fn read_unit<M: Medium>(medium: &M, start: u32, address: u32, part: &mut [u8]) -> Result<(), Fault>
-    ensures answer { result ≡ answer (meaning medium.now) (start + address) (length part.old) }
-    ensures buffer { part.new ≡ filled (meaning medium.now) (start + address) part.old }
+    ensures answer { result ≡ answer (M.meaning medium.now) (start + address) (length part.old) }
+    ensures buffer { part.new ≡ filled (M.meaning medium.now) (start + address) part.old }
 {
     let Some(block) = start.checked_add(address) else {
         return Err(Fault::Outside);
@@ -24,8 +24,8 @@ fn read_unit<M: Medium>(medium: &M, start: u32, address: u32, part: &mut [u8]) -
 }
 
 fn write_unit<M: Medium>(medium: &mut M, start: u32, address: u32, part: &[u8]) -> Result<(), Fault>
-    ensures answer { result ≡ answer (meaning medium.old) (start + address) (length part.now) }
-    ensures after { meaning medium.new ≡ written (meaning medium.old) (start + address) part.now }
+    ensures answer { result ≡ answer (M.meaning medium.old) (start + address) (length part.now) }
+    ensures after { M.meaning medium.new ≡ written (M.meaning medium.old) (start + address) part.now }
 {
     let Some(block) = start.checked_add(address) else {
         return Err(Fault::Outside);
@@ -43,9 +43,9 @@ pub fn read_blocks<M: Medium>(
     buffer: &mut [u8],
 ) -> Result<(), Stopped>
     requires { (512 * count ≤ length buffer.old) × (address + count < 2 ^ 32) }
-    ensures moved { moved_of count result ≡ good_run count (start + address) (meaning medium.now) }
+    ensures moved { moved_of count result ≡ good_run count (start + address) (M.meaning medium.now) }
     ensures short { IfErr result (λ s. s.moved < count) }
-    ensures buffer { buffer.new ≡ loaded count (start + address) (meaning medium.now) buffer.old }
+    ensures buffer { buffer.new ≡ loaded count (start + address) (M.meaning medium.now) buffer.old }
 {
     for i in 0..count {
         let at = PAGE * i as usize;
@@ -66,9 +66,9 @@ pub fn write_blocks<M: Medium>(
     buffer: &[u8],
 ) -> Result<(), Stopped>
     requires { (512 * count ≤ length buffer.now) × (address + count < 2 ^ 32) }
-    ensures moved { moved_of count result ≡ good_run count (start + address) (meaning medium.old) }
+    ensures moved { moved_of count result ≡ good_run count (start + address) (M.meaning medium.old) }
     ensures short { IfErr result (λ s. s.moved < count) }
-    ensures after { meaning medium.new ≡ kept count (start + address) buffer.now (meaning medium.old) }
+    ensures after { M.meaning medium.new ≡ kept count (start + address) buffer.now (M.meaning medium.old) }
 {
     for i in 0..count {
         let at = PAGE * i as usize;

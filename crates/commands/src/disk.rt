@@ -15,9 +15,9 @@ const BLOCK_SIZE: u32 = 512;
 // The blocks that moved are answered.
 pub fn read<M: Medium>(medium: &M, start: u32, address: u32, count: u16, buffer: &mut [u8]) -> Ended
     requires { (512 * count ≤ length buffer.old) × (address + count < 2 ^ 32) }
-    ensures ending { ending_of result buffer.new (meaning medium.now) ≡ read_blocks address count (start + address) (good_run count (start + address) (meaning medium.now)) (meaning medium.now) }
+    ensures ending { ending_of result buffer.new (M.meaning medium.now) ≡ read_blocks address count (start + address) (good_run count (start + address) (M.meaning medium.now)) (M.meaning medium.now) }
     ensures bound { result.answered ≤ length buffer.new }
-    ensures buffer { buffer.new ≡ front (bytes_from (good_run count (start + address) (meaning medium.now)) (start + address) (meaning medium.now)) buffer.old }
+    ensures buffer { buffer.new ≡ front (bytes_from (good_run count (start + address) (M.meaning medium.now)) (start + address) (M.meaning medium.now)) buffer.old }
 {
     let blocks = count as u32;
     match read_blocks(medium, start, address, blocks, buffer) {
@@ -48,7 +48,7 @@ pub fn write<M: Medium>(
 ) -> Ended
     requires { (512 * count ≤ length buffer.now) × (address + count < 2 ^ 32) }
     ensures bound { result.answered ≡ 0 }
-    ensures ending { ending_of result buffer.now (meaning medium.new) ≡ write_blocks address count (start + address) (good_run count (start + address) (meaning medium.old)) buffer.now (meaning medium.old) }
+    ensures ending { ending_of result buffer.now (M.meaning medium.new) ≡ write_blocks address count (start + address) (good_run count (start + address) (M.meaning medium.old)) buffer.now (M.meaning medium.old) }
 {
     let blocks = count as u32;
     match write_blocks(medium, start, address, blocks, buffer) {

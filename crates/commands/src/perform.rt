@@ -25,9 +25,9 @@ fn move_data<M: Medium>(
     buffer: &mut [u8],
 ) -> Ended
     requires { (failure_of target.place.count target.closed command ≡ None) × (meant_by command ≤ length buffer.old) }
-    ensures ending { ending_of result buffer.new (meaning medium.new) ≡ moving target.place target.sense command buffer.old (meaning medium.old) }
+    ensures ending { ending_of result buffer.new (M.meaning medium.new) ≡ moving target.place target.sense command buffer.old (M.meaning medium.old) }
     ensures bound { result.answered ≤ length buffer.new }
-    ensures buffer { buffer.new ≡ front (moving target.place target.sense command buffer.old (meaning medium.old)).answer buffer.old }
+    ensures buffer { buffer.new ≡ front (moving target.place target.sense command buffer.old (M.meaning medium.old)).answer buffer.old }
 {
     match command {
         Command::TestUnitReady => tell(&[], 0, buffer),
@@ -64,7 +64,7 @@ pub fn perform<M: Medium>(
     buffer: &mut [u8],
 ) -> Result<Ended, Refusal>
     ensures bound { IfOk result (λ e. e.answered ≤ length buffer.new) }
-    ensures carried { carried_of result buffer.new (meaning medium.new) ≡ carried_out target cbw buffer.old (meaning medium.old) }
+    ensures carried { carried_of result buffer.new (M.meaning medium.new) ≡ carried_out target cbw buffer.old (M.meaning medium.old) }
 {
     if buffer.len() < cbw.total as usize {
         return Err(Refusal::ShortBuffer);

@@ -14,7 +14,7 @@ const ZEROS: [u8; 512] = [0; 512];
 
 // A block past the medium's end is passed over as a bad one is.
 fn zero_block<M: Medium>(medium: &mut M, start: u32, offset: u32)
-    ensures { meaning medium.new ≡ written (meaning medium.old) (start + offset) (replicate 512 0) }
+    ensures { M.meaning medium.new ≡ written (M.meaning medium.old) (start + offset) (replicate 512 0) }
 {
     if let Some(block) = start.checked_add(offset) {
         let _ = medium.write(block, &ZEROS);
@@ -23,7 +23,7 @@ fn zero_block<M: Medium>(medium: &mut M, start: u32, offset: u32)
 
 fn zero_blocks<M: Medium>(medium: &mut M, start: u32, first: u32, count: u32)
     requires { first + count < 2 ^ 32 }
-    ensures { meaning medium.new ≡ zeroed (start + first) count (meaning medium.old) }
+    ensures { M.meaning medium.new ≡ zeroed (start + first) count (M.meaning medium.old) }
 {
     for i in 0..count {
         zero_block(medium, start, first + i);
@@ -32,7 +32,7 @@ fn zero_blocks<M: Medium>(medium: &mut M, start: u32, first: u32, count: u32)
 
 // The next blocks of a unit with this place after so many work steps: 16, or as many as are left.
 pub fn zero_step<M: Medium>(medium: &mut M, place: Place, steps_done: u32)
-    ensures { meaning medium.new ≡ zeroed (place.start + 16 * steps_done) (min 16 (place.count - 16 * steps_done)) (meaning medium.old) }
+    ensures { M.meaning medium.new ≡ zeroed (place.start + 16 * steps_done) (min 16 (place.count - 16 * steps_done)) (M.meaning medium.old) }
 {
     if let Some(first) = STEP_BLOCKS.checked_mul(steps_done) {
         let left = place.count.saturating_sub(first);

@@ -40,7 +40,7 @@ fn bulk_reply(res: Result<Completion, Refusal>) -> Reply
 pub fn perform<M: Medium>(stick: Running<M>, event: &mut Event) -> (Running<M>, Reply)
     ensures bound { count_of result.1 ≤ length (buffer_of event.new) }
     ensures kept { unhanded (event_of event.new) ≡ unhanded (event_of event.old) }
-    ensures step { stepped (reply_of result.1 (buffer_of event.new)) (stick_of meaning result.0) ≡ step (layout_of stick.layout) (stick_of meaning stick) (event_of event.old) }
+    ensures step { stepped (reply_of result.1 (buffer_of event.new)) (stick_of M.meaning result.0) ≡ step (layout_of stick.layout) (stick_of M.meaning stick) (event_of event.old) }
     ensures layout { layout_of result.0.layout ≡ layout_of stick.layout }
 {
     let mut stick = stick;
@@ -84,7 +84,7 @@ pub fn perform<M: Medium>(stick: Running<M>, event: &mut Event) -> (Running<M>, 
 // Performs the event of a turn, and keeps the reply beside it.
 pub fn take_turn<M: Medium>(stick: Running<M>, turn: &mut Turn) -> Running<M>
     ensures kept { unhanded (event_in turn.new) ≡ unhanded (event_in turn.old) }
-    ensures step { stepped (reply_in turn.new) (stick_of meaning result) ≡ step (layout_of stick.layout) (stick_of meaning stick) (event_in turn.old) }
+    ensures step { stepped (reply_in turn.new) (stick_of M.meaning result) ≡ step (layout_of stick.layout) (stick_of M.meaning stick) (event_in turn.old) }
     ensures layout { layout_of result.layout ≡ layout_of stick.layout }
 {
     let (next, reply) = perform(stick, &mut turn.event);
@@ -95,8 +95,8 @@ pub fn take_turn<M: Medium>(stick: Running<M>, turn: &mut Turn) -> Running<M>
 // Runs a list of events, oldest first: each turn has its reply afterwards.
 pub fn run<M: Medium>(stick: Running<M>, turns: &mut Vec<Turn>) -> Running<M>
     ensures kept { map unhanded (map event_in turns.new.items) ≡ map unhanded (map event_in turns.old.items) }
-    ensures end { stick_of meaning result ≡ run_on (layout_of stick.layout) (stick_of meaning stick) (map event_in turns.old.items) }
-    ensures replies { map reply_in turns.new.items ≡ replies (layout_of stick.layout) (stick_of meaning stick) (map event_in turns.old.items) }
+    ensures end { stick_of M.meaning result ≡ run_on (layout_of stick.layout) (stick_of M.meaning stick) (map event_in turns.old.items) }
+    ensures replies { map reply_in turns.new.items ≡ replies (layout_of stick.layout) (stick_of M.meaning stick) (map event_in turns.old.items) }
     ensures layout { layout_of result.layout ≡ layout_of stick.layout }
 {
     let mut stick = stick;

@@ -21,7 +21,7 @@ fn live<M: Medium>(
     history: &mut Vec<Turn>,
     further: &mut Vec<Turn>,
 ) -> Running<M>
-    ensures { Life layout.now (meaning medium) (map event_in history.old.items) (map event_in further.old.items) (map reply_in history.new.items) (map reply_in further.new.items) (stick_of meaning result) }
+    ensures { Life layout.now (M.meaning medium) (map event_in history.old.items) (map event_in further.old.items) (map reply_in history.new.items) (map reply_in further.new.items) (stick_of M.meaning result) }
 {
     let stick = run(start(medium, layout), history);
     run(stick, further)

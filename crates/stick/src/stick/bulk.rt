@@ -22,7 +22,7 @@ impl<M: Medium> Running<M> {
     // The command for the unit with this number, and the sense that it leaves there.
     fn command(&mut self, index: usize, cbw: Cbw, buffer: &mut [u8]) -> Result<Completion, Refusal>
         requires { index < self.old.layout.unit_count }
-        ensures bulk { bulk_of result buffer.new (stick_of meaning self.new) ≡ handed_back buffer.old (unit_commanded (layout_of self.old.layout) index cbw buffer.old (stick_of meaning self.old)) }
+        ensures bulk { bulk_of result buffer.new (stick_of M.meaning self.new) ≡ handed_back buffer.old (unit_commanded (layout_of self.old.layout) index cbw buffer.old (stick_of M.meaning self.old)) }
         ensures layout { layout_of self.new.layout ≡ layout_of self.old.layout }
         ensures bound { IfOk result (λ c. c.answered ≤ length buffer.new) }
     {
@@ -48,7 +48,7 @@ impl<M: Medium> Running<M> {
     fn jam(&mut self, interface: u8) -> Result<Completion, Refusal>
         requires { interface < self.old.layout.interface_count }
         ensures none { OnOk result (⊥) }
-        ensures bulk { (ds : List ℕ) → bulk_of result ds (stick_of meaning self.new) ≡ handed_back ds (jam interface (stick_of meaning self.old)) }
+        ensures bulk { (ds : List ℕ) → bulk_of result ds (stick_of M.meaning self.new) ≡ handed_back ds (jam interface (stick_of M.meaning self.old)) }
         ensures layout { layout_of self.new.layout ≡ layout_of self.old.layout }
     {
         self.interfaces.list[interface as usize].jammed = true;
@@ -63,7 +63,7 @@ impl<M: Medium> Running<M> {
         buffer: &mut [u8],
     ) -> Result<Completion, Refusal>
         requires { interface < self.old.layout.interface_count }
-        ensures bulk { bulk_of result buffer.new (stick_of meaning self.new) ≡ handed_back buffer.old (wrapped (layout_of self.old.layout) interface (cbw_in cbw.now) buffer.old (stick_of meaning self.old)) }
+        ensures bulk { bulk_of result buffer.new (stick_of M.meaning self.new) ≡ handed_back buffer.old (wrapped (layout_of self.old.layout) interface (cbw_in cbw.now) buffer.old (stick_of M.meaning self.old)) }
         ensures layout { layout_of self.new.layout ≡ layout_of self.old.layout }
         ensures bound { IfOk result (λ c. c.answered ≤ length buffer.new) }
     {
@@ -78,14 +78,14 @@ impl<M: Medium> Running<M> {
 
     fn is_jammed(&self, interface: u8) -> bool
         requires { interface < self.now.layout.interface_count }
-        ensures { result ≡ (interface_at interface (stick_of meaning self.now)).jammed }
+        ensures { result ≡ (interface_at interface (stick_of M.meaning self.now)).jammed }
     {
         self.interfaces.list[interface as usize].jammed
     }
 
     // A command of a stick that is present.
     fn reach(&mut self, interface: u8, cbw: &[u8], buffer: &mut [u8]) -> Result<Completion, Refusal>
-        ensures bulk { bulk_of result buffer.new (stick_of meaning self.new) ≡ handed_back buffer.old (on_interface (layout_of self.old.layout) interface cbw.now buffer.old (stick_of meaning self.old)) }
+        ensures bulk { bulk_of result buffer.new (stick_of M.meaning self.new) ≡ handed_back buffer.old (on_interface (layout_of self.old.layout) interface cbw.now buffer.old (stick_of M.meaning self.old)) }
         ensures layout { layout_of self.new.layout ≡ layout_of self.old.layout }
         ensures bound { IfOk result (λ c. c.answered ≤ length buffer.new) }
     {
@@ -105,7 +105,7 @@ impl<M: Medium> Running<M> {
         cbw: &[u8],
         buffer: &mut [u8],
     ) -> Result<Completion, Refusal>
-        ensures bulk { bulk_of result buffer.new (stick_of meaning self.new) ≡ bulked (layout_of self.old.layout) interface cbw.now buffer.old (stick_of meaning self.old) }
+        ensures bulk { bulk_of result buffer.new (stick_of M.meaning self.new) ≡ bulked (layout_of self.old.layout) interface cbw.now buffer.old (stick_of M.meaning self.old) }
         ensures layout { layout_of self.new.layout ≡ layout_of self.old.layout }
         ensures bound { IfOk result (λ c. c.answered ≤ length buffer.new) }
     {

@@ -52,7 +52,7 @@ impl<M: Medium> Running<M> {
         length: u16,
         arriving: usize,
     ) -> Result<(), Refusal>
-        ensures outcome { done_of result (stick_of meaning self.new) ≡ with_interface (layout_of self.old.layout) interface (stick_of meaning self.old) (clear_jam interface length arriving (stick_of meaning self.old)) }
+        ensures outcome { done_of result (stick_of M.meaning self.new) ≡ with_interface (layout_of self.old.layout) interface (stick_of M.meaning self.old) (clear_jam interface length arriving (stick_of M.meaning self.old)) }
         ensures layout { layout_of self.new.layout ≡ layout_of self.old.layout }
     {
         let i = interface as usize;
@@ -69,7 +69,7 @@ impl<M: Medium> Running<M> {
     // Whether a unit of an interface is Locked.
     fn is_any_locked(&self, interface: u8) -> bool
         requires { interface < self.now.layout.interface_count }
-        ensures { result ≡ any_locked (units_of_interface (layout_of self.now.layout) interface (stick_of meaning self.now).units) }
+        ensures { result ≡ any_locked (units_of_interface (layout_of self.now.layout) interface (stick_of M.meaning self.now).units) }
     {
         match self.layout.unit_range(interface) {
             Some((first, end)) => is_any(&self.units.rows[first..end], Quality::Locked),
@@ -79,7 +79,7 @@ impl<M: Medium> Running<M> {
 
     // Begins an interface change.
     fn change_access(&mut self, interface: u8, length: u16, data: &[u8]) -> Result<(), Refusal>
-        ensures outcome { done_of result (stick_of meaning self.new) ≡ with_interface (layout_of self.old.layout) interface (stick_of meaning self.old) (access_sized (layout_of self.old.layout) interface length «data».now (stick_of meaning self.old)) }
+        ensures outcome { done_of result (stick_of M.meaning self.new) ≡ with_interface (layout_of self.old.layout) interface (stick_of M.meaning self.old) (access_sized (layout_of self.old.layout) interface length «data».now (stick_of M.meaning self.old)) }
         ensures layout { layout_of self.new.layout ≡ layout_of self.old.layout }
     {
         if interface as usize >= self.layout.interface_count {
@@ -112,7 +112,7 @@ impl<M: Medium> Running<M> {
         length: u16,
         data: &[u8],
     ) -> Result<(), Refusal>
-        ensures outcome { done_of result (stick_of meaning self.new) ≡ put_to_unit (find_unit (layout_of self.old.layout) interface unit) (is_negotiable (interface_at interface (stick_of meaning self.old)).ids) (sized put length «data».now) (stick_of meaning self.old) }
+        ensures outcome { done_of result (stick_of M.meaning self.new) ≡ put_to_unit (find_unit (layout_of self.old.layout) interface unit) (is_negotiable (interface_at interface (stick_of M.meaning self.old)).ids) (sized put length «data».now) (stick_of M.meaning self.old) }
         ensures layout { layout_of self.new.layout ≡ layout_of self.old.layout }
     {
         let Some(index) = self.layout.find_unit(interface, unit) else {
@@ -132,7 +132,7 @@ impl<M: Medium> Running<M> {
         length: u16,
         data: &[u8],
     ) -> Result<(), Refusal>
-        ensures outcome { done_of result (stick_of meaning self.new) ≡ put_request (layout_of self.old.layout) put interface unit length «data».now (stick_of meaning self.old) }
+        ensures outcome { done_of result (stick_of M.meaning self.new) ≡ put_request (layout_of self.old.layout) put interface unit length «data».now (stick_of M.meaning self.old) }
         ensures layout { layout_of self.new.layout ≡ layout_of self.old.layout }
     {
         match put {

@@ -12,7 +12,7 @@ use model::ids::{Ids, Phase};
 impl<M: Medium> Running<M> {
     // The interface presents the target, and nothing is told any more of the time before.
     fn present(&mut self, interface: u8, target: Ids)
-        ensures stick { stick_of meaning self.new ≡ presenting interface target (stick_of meaning self.old) }
+        ensures stick { stick_of M.meaning self.new ≡ presenting interface target (stick_of M.meaning self.old) }
         ensures layout { layout_of self.new.layout ≡ layout_of self.old.layout }
     {
         self.units.present();
@@ -23,7 +23,7 @@ impl<M: Medium> Running<M> {
 
     // Time passes while the stick is gone.
     fn stay_gone(&mut self, milliseconds: u32, interface: u8, target: Ids, gone_ms: u32)
-        ensures stick { stick_of meaning self.new ≡ gone_on milliseconds interface target gone_ms (stick_of meaning self.old) }
+        ensures stick { stick_of M.meaning self.new ≡ gone_on milliseconds interface target gone_ms (stick_of M.meaning self.old) }
         ensures layout { layout_of self.new.layout ≡ layout_of self.old.layout }
     {
         if gone_ms <= milliseconds {
@@ -39,7 +39,7 @@ impl<M: Medium> Running<M> {
 
     // A clock call: a phase ends when nothing of it is left, and what is over is lost.
     pub fn clock(&mut self, milliseconds: u32)
-        ensures stick { stick_of meaning self.new ≡ passed milliseconds (stick_of meaning self.old).phase (stick_of meaning self.old) }
+        ensures stick { stick_of M.meaning self.new ≡ passed milliseconds (stick_of M.meaning self.old).phase (stick_of M.meaning self.old) }
         ensures layout { layout_of self.new.layout ≡ layout_of self.old.layout }
     {
         match self.phase {
@@ -71,7 +71,7 @@ impl<M: Medium> Running<M> {
 
     // A bus reset clears every jam, and nothing else.
     pub fn bus_reset(&mut self)
-        ensures stick { stick_of meaning self.new ≡ bus_reset (stick_of meaning self.old) }
+        ensures stick { stick_of M.meaning self.new ≡ bus_reset (stick_of M.meaning self.old) }
         ensures layout { layout_of self.new.layout ≡ layout_of self.old.layout }
     {
         self.interfaces.unjam(); // an interface change goes on
@@ -79,13 +79,13 @@ impl<M: Medium> Running<M> {
 
     // A suspended bus changes nothing of the stick.
     pub fn bus_suspend(&mut self)
-        ensures stick { stick_of meaning self.new ≡ stick_of meaning self.old }
+        ensures stick { stick_of M.meaning self.new ≡ stick_of M.meaning self.old }
         ensures layout { layout_of self.new.layout ≡ layout_of self.old.layout }
     {}
 
     // Nor does a bus that resumes.
     pub fn bus_resume(&mut self)
-        ensures stick { stick_of meaning self.new ≡ stick_of meaning self.old }
+        ensures stick { stick_of M.meaning self.new ≡ stick_of M.meaning self.old }
         ensures layout { layout_of self.new.layout ≡ layout_of self.old.layout }
     {}
 }

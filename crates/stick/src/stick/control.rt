@@ -45,7 +45,7 @@ fn nothing(done: Result<(), Refusal>) -> Result<Answer, Refusal>
 impl<M: Medium> Running<M> {
     // Refuses while the stick idles or is gone in an interface change.
     pub(super) fn is_present(&self) -> Result<(), Refusal>
-        ensures { result ≡ presence (stick_of meaning self.now).phase }
+        ensures { result ≡ presence (stick_of M.meaning self.now).phase }
     {
         match self.phase {
             Phase::Present => Ok(()),
@@ -56,7 +56,7 @@ impl<M: Medium> Running<M> {
 
     // A listed request: what it answers, and what it changes. The buffer is only looked at here.
     fn serve(&mut self, request: Request, wanted: u16, data: &[u8]) -> Result<Answer, Refusal>
-        ensures outcome { outcome_of result (stick_of meaning self.new) ≡ request_outcome (layout_of self.old.layout) request wanted «data».now (stick_of meaning self.old) }
+        ensures outcome { outcome_of result (stick_of M.meaning self.new) ≡ request_outcome (layout_of self.old.layout) request wanted «data».now (stick_of M.meaning self.old) }
         ensures room { IfOk result (λ a. length (answer_of a) ≤ length «data».now) }
         ensures layout { layout_of self.new.layout ≡ layout_of self.old.layout }
     {
@@ -83,7 +83,7 @@ impl<M: Medium> Running<M> {
 
     // A transfer by its bytes, before its buffer is touched.
     fn transfer(&mut self, setup: &[u8], data: &[u8]) -> Result<Answer, Refusal>
-        ensures outcome { outcome_of result (stick_of meaning self.new) ≡ served (layout_of self.old.layout) setup.now «data».now (stick_of meaning self.old) }
+        ensures outcome { outcome_of result (stick_of M.meaning self.new) ≡ served (layout_of self.old.layout) setup.now «data».now (stick_of M.meaning self.old) }
         ensures room { IfOk result (λ a. length (answer_of a) ≤ length «data».now) }
         ensures layout { layout_of self.new.layout ≡ layout_of self.old.layout }
     {
@@ -96,7 +96,7 @@ impl<M: Medium> Running<M> {
 
     // A control transfer with its setup bytes and one buffer: how many bytes are answered at the buffer's front.
     pub fn control(&mut self, setup: &[u8], buffer: &mut [u8]) -> Result<usize, Refusal>
-        ensures transfer { transfer_of result buffer.new (stick_of meaning self.new) ≡ controlled (layout_of self.old.layout) setup.now buffer.old (stick_of meaning self.old) }
+        ensures transfer { transfer_of result buffer.new (stick_of M.meaning self.new) ≡ controlled (layout_of self.old.layout) setup.now buffer.old (stick_of M.meaning self.old) }
         ensures layout { layout_of self.new.layout ≡ layout_of self.old.layout }
         ensures bound { IfOk result (λ n. n ≤ length buffer.new) }
     {

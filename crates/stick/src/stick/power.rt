@@ -57,9 +57,9 @@ fn interfaces_up(layout: &Layout, units: &Rows) -> Interfaces
 impl<M: Medium> Unpowered<M> {
     // Fits a stick to a medium by layout bytes, whatever they are: against a rule it has no interface. Its units are new.
     pub fn fit(medium: M, layout_bytes: &[u8]) -> Unpowered<M>
-        ensures layout { layout_of result.layout ≡ fitted_layout layout_bytes.now (length (meaning medium)) }
-        ensures units { units_in result.layout result.units ≡ fitted_units (fitted_layout layout_bytes.now (length (meaning medium))) }
-        ensures medium { meaning result.medium ≡ meaning medium }
+        ensures layout { layout_of result.layout ≡ fitted_layout layout_bytes.now (length (M.meaning medium)) }
+        ensures units { units_in result.layout result.units ≡ fitted_units (fitted_layout layout_bytes.now (length (M.meaning medium))) }
+        ensures medium { M.meaning result.medium ≡ M.meaning medium }
         ensures same { result.medium ≡ «medium» }
     {
         let end = medium.blocks();
@@ -73,7 +73,7 @@ impl<M: Medium> Unpowered<M> {
 
     // Power-up: no interface change is under way, units that hold a passphrase are Locked, flags, sense and jams are cleared.
     pub fn power_up(self) -> Running<M>
-        ensures stick { stick_of meaning result ≡ powered_up (layout_of self.layout) (units_in self.layout self.units) (meaning self.medium) }
+        ensures stick { stick_of M.meaning result ≡ powered_up (layout_of self.layout) (units_in self.layout self.units) (M.meaning self.medium) }
         ensures layout { layout_of result.layout ≡ layout_of self.layout }
         ensures same { result.medium ≡ self.medium }
     {
@@ -98,8 +98,8 @@ impl<M: Medium> Running<M> {
     // Power-down keeps the layout, the units' records and the medium, and nothing else.
     pub fn power_down(self) -> Unpowered<M>
         ensures layout { layout_of result.layout ≡ layout_of self.layout }
-        ensures units { units_in result.layout result.units ≡ (stick_of meaning self).units }
-        ensures medium { meaning result.medium ≡ (stick_of meaning self).blocks }
+        ensures units { units_in result.layout result.units ≡ (stick_of M.meaning self).units }
+        ensures medium { M.meaning result.medium ≡ (stick_of M.meaning self).blocks }
         ensures same { result.medium ≡ self.medium }
     {
         let Running {
@@ -118,7 +118,7 @@ impl<M: Medium> Running<M> {
 
     // A power cycle: power-down and the next power-up together.
     pub fn power_cycle(self) -> Running<M>
-        ensures stick { stick_of meaning result ≡ repowered (layout_of self.layout) (stick_of meaning self) }
+        ensures stick { stick_of M.meaning result ≡ repowered (layout_of self.layout) (stick_of M.meaning self) }
         ensures layout { layout_of result.layout ≡ layout_of self.layout }
         ensures same { result.medium ≡ self.medium }
     {
@@ -128,8 +128,8 @@ impl<M: Medium> Running<M> {
 
 // Fits a stick and powers it up for the first time.
 pub fn start<M: Medium>(medium: M, layout_bytes: &[u8]) -> Running<M>
-    ensures stick { stick_of meaning result ≡ first (fitted_layout layout_bytes.now (length (meaning medium))) (meaning medium) }
-    ensures layout { layout_of result.layout ≡ fitted_layout layout_bytes.now (length (meaning medium)) }
+    ensures stick { stick_of M.meaning result ≡ first (fitted_layout layout_bytes.now (length (M.meaning medium))) (M.meaning medium) }
+    ensures layout { layout_of result.layout ≡ fitted_layout layout_bytes.now (length (M.meaning medium)) }
     ensures same { result.medium ≡ «medium» }
 {
     Unpowered::fit(medium, layout_bytes).power_up()

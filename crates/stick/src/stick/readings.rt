@@ -33,7 +33,7 @@ impl<M: Medium> Running<M> {
         wanted: u16,
         room: usize,
     ) -> Result<Answer, Refusal>
-        ensures outcome { outcome_of result (stick_of meaning self.now) ≡ tell_lock_data (layout_of self.now.layout) (find_unit (layout_of self.now.layout) interface unit) interface unit wanted room (stick_of meaning self.now) }
+        ensures outcome { outcome_of result (stick_of M.meaning self.now) ≡ tell_lock_data (layout_of self.now.layout) (find_unit (layout_of self.now.layout) interface unit) interface unit wanted room (stick_of M.meaning self.now) }
         ensures room { IfOk result (λ a. length (answer_of a) ≤ room) }
     {
         let Some(index) = self.layout.find_unit(interface, unit) else {
@@ -50,7 +50,7 @@ impl<M: Medium> Running<M> {
         wanted: u16,
         room: usize,
     ) -> Result<Answer, Refusal>
-        ensures outcome { outcome_of result (stick_of meaning self.now) ≡ with_interface (layout_of self.now.layout) interface (stick_of meaning self.now) (tell_highest (layout_of self.now.layout) interface wanted room (stick_of meaning self.now)) }
+        ensures outcome { outcome_of result (stick_of M.meaning self.now) ≡ with_interface (layout_of self.now.layout) interface (stick_of M.meaning self.now) (tell_highest (layout_of self.now.layout) interface wanted room (stick_of M.meaning self.now)) }
         ensures room { IfOk result (λ a. length (answer_of a) ≤ room) }
     {
         let i = interface as usize;

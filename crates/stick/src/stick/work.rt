@@ -14,7 +14,7 @@ impl<M: Medium> Running<M> {
     // The next step of the unit with this number.
     fn recover(&mut self, index: usize)
         requires { index < self.old.layout.unit_count }
-        ensures stick { stick_of meaning self.new ≡ work_on (layout_of self.old.layout) index (steps_done_of (unit_at index (stick_of meaning self.old)).standing) (stick_of meaning self.old) }
+        ensures stick { stick_of M.meaning self.new ≡ work_on (layout_of self.old.layout) index (steps_done_of (unit_at index (stick_of M.meaning self.old)).standing) (stick_of M.meaning self.old) }
         ensures layout { layout_of self.new.layout ≡ layout_of self.old.layout }
     {
         let place = self.layout.places[index];
@@ -25,7 +25,7 @@ impl<M: Medium> Running<M> {
 
     // A work step, for the first recovering unit; with none recovering nothing happens.
     pub fn work(&mut self)
-        ensures stick { stick_of meaning self.new ≡ worked (layout_of self.old.layout) (stick_of meaning self.old) }
+        ensures stick { stick_of M.meaning self.new ≡ worked (layout_of self.old.layout) (stick_of M.meaning self.old) }
         ensures layout { layout_of self.new.layout ≡ layout_of self.old.layout }
     {
         let count = self.layout.unit_count;

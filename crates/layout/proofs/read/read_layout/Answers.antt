@@ -48,7 +48,15 @@ invariant_of-result c =
     let table : take (byte c.args.bytes.now 6) c.count_table-unit_counts.result ≡ counts =
     ap (λ k. take k c.count_table-unit_counts.result) (sym c.split_at.ensures.front_len) ∙ c.count_table-unit_counts.ensures.front in
     let more = ap (λ k. drop k c.count_table-unit_counts.result) (sym c.split_at.ensures.front_len) ∙ c.count_table-unit_counts.ensures.rest ∙ ap (λ k. drop k (replicate 4 0)) c.split_at.ensures.front_len in
-    (search rules, (front_within (byte c.args.bytes.now 6) c.count_table-unit_counts.result counts table c.split_at.ensures.front_len, (c.in_ok-unit_count.ensures.bound, (told.1 ∙ ap sum (sym table), (more, (c.read_places-places.ensures.rest, (search rules, tt)))))))
+    record {
+      few_interfaces = search rules;
+      each_counted = front_within (byte c.args.bytes.now 6) c.count_table-unit_counts.result counts table c.split_at.ensures.front_len;
+      few_units = c.in_ok-unit_count.ensures.bound;
+      all_units = told.1 ∙ ap sum (sym table);
+      no_more_counts = more;
+      no_more_places = c.read_places-places.ensures.rest;
+      aligned = search rules;
+    }
 
 pub returns : goal.returns
 returns c =

@@ -4,8 +4,8 @@ use Rattle.std.proofs.lemmas.Bool.Decides.{nat_tests}
 use Rattle.parts.proofs.Cuts.{text_is, text_bound}
 use Rattle.parts.proofs.reading.phrase_in.Goals as goal
 
-pub returns-in_default-default : goal.returns-in_default-default
-returns-in_default-default c = record { value = grind (arith, places, nat_tests); bound = tt }
+pub returns-in_default-rest : goal.returns-in_default-rest
+returns-in_default-rest c = record { value = grind (arith, places, nat_tests); bound = tt }
 
 pub returns : goal.returns
 returns c =

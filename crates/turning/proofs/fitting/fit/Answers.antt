@@ -10,7 +10,15 @@ invariant_of-result c =
     let pages = c.identity.result in
     let few : n ≤ 1024 = search rules in
     let is : (b : ℕ) → b < n → get_or pages b 0 ≡ b = λ b h. c.identity.ensures.places b (omega arith) in
-    (search rules, (few, (c.identity.ensures.full, (omega arith, (within_start pages n is, (distinct_start pages n is, (spared_start pages n is, tt)))))))
+    record {
+      room = search rules;
+      few = few;
+      full = c.identity.ensures.full;
+      beside = omega arith;
+      within = within_start pages n is;
+      distinct = distinct_start pages n is;
+      spared = spared_start pages n is;
+    }
 
 pub returns : goal.returns
 returns c =

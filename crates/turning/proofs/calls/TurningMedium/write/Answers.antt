@@ -32,25 +32,16 @@ invariant_of-self c =
     let s = c.args.self.now in
     let b = c.args.block in
     let h : b < s.count = search rules in
-    let i : b < length s.pages = omega arith in (
-      s.room,
-      (
-        s.few,
-        (
-          length-set s.pages b s.spare ∙ s.full,
-          (
-            s.within b h,
-            (
-              within_turn s.pages s.count b s.spare i h s.beside s.within,
-              (
-                distinct_turn s.pages s.count b s.spare i h s.distinct s.spared,
-                (spared_turn s.pages s.count b s.spare i h s.distinct s.spared, tt),
-              ),
-            ),
-          ),
-        ),
-      ),
-    )
+    let i : b < length s.pages = omega arith in
+    record {
+      room = s.room;
+      few = s.few;
+      full = length-set s.pages b s.spare ∙ s.full;
+      beside = s.within b h;
+      within = within_turn s.pages s.count b s.spare i h s.beside s.within;
+      distinct = distinct_turn s.pages s.count b s.spare i h s.distinct s.spared;
+      spared = spared_turn s.pages s.count b s.spare i h s.distinct s.spared;
+    }
 
 pub returns : goal.returns
 returns c =
