@@ -6,5 +6,5 @@ use Rattle.recovery.proofs.zero_step.Goals as goal
 pub returns-in_default : goal.returns-in_default
 returns-in_default g c =
     let m = g.M.Medium.meaning c.args.medium.now in
-    let none : min 16 (c.args.place.count - 16 * c.args.steps_done_of) ≡ 0 = omega (arith, c.in_default.ensures) in
-    sym (zeroed_none (c.args.place.start + 16 * c.args.steps_done_of) m) ∙ ap (λ n. zeroed (c.args.place.start + 16 * c.args.steps_done_of) n m) (sym none)
+    let none : min 16 (c.args.place.count - 16 * c.args.steps_done) ≡ 0 = omega (arith, c.in_default.ensures) in
+    sym (zeroed_none (c.args.place.start + 16 * c.args.steps_done) m) ∙ ap (λ n. zeroed (c.args.place.start + 16 * c.args.steps_done) n m) (sym none)

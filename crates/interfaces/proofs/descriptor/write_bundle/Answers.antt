@@ -8,7 +8,7 @@ returns c =
     let xs = c.args.interfaces.now in
     let n = length xs in
     record {
-      front = bundle_front 9 (9 + 26 * n) (configuration (9 + 26 * n) n) _ c.copy-from-slice.new.self c.write-pieces.new.out _ xs
-          refl (c.copy-from-slice.ensures.after ∙ c.configuration.ensures) refl c.write-pieces.ensures;
+      front = bundle_front 9 (9 + 26 * n) (configuration (9 + 26 * n) n) _ c.copy_from_slice.new.self c.write_pieces.new.out _ xs
+          refl (c.copy_from_slice.ensures.after ∙ c.configuration.ensures) refl c.write_pieces.ensures;
       bound = omega arith;
     }

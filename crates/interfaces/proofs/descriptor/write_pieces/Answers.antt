@@ -4,8 +4,8 @@ use Rattle.interfaces.proofs.descriptor.write_pieces.Goals as goal
 
 pub loop-i-preserved : goal.loop-i-preserved
 loop-i-preserved c =
-    written_more 9 c.args.out.now c.args.interfaces.now c.loop-i.i _ _ c.loop-i.out c.interface_piece.result c.copy-from-slice.new.self
-    c.loop-i-test.true c.requires.1 (omega arith) c.copy-from-slice.ensures.after c.interface_piece.ensures c.loop-i.invariant
+    written_more 9 c.args.out.now c.args.interfaces.now c.loop-i.i _ _ c.loop-i.out c.interface_piece.result c.copy_from_slice.new.self
+    c.loop-i-test.true c.requires.1 (omega arith) c.copy_from_slice.ensures.after c.interface_piece.ensures c.loop-i.invariant
 
 pub returns : goal.returns
 returns c =

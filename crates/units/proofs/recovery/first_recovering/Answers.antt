@@ -5,14 +5,14 @@ use Rattle.units.specs.Records.{record_of}
 use Rattle.units.proofs.Loops.{first_step}
 use Rattle.units.proofs.recovery.first_recovering.Goals as goal
 
-pub returns-then-is-recovering : goal.returns-then-is-recovering
-returns-then-is-recovering c =
-    let step = first_step c.args.rows.now c.loop-i.i _ true c.loop-i-test.true c.if-is-recovering.ensures in
+pub returns-then-is_recovering : goal.returns-then-is_recovering
+returns-then-is_recovering c =
+    let step = first_step c.args.rows.now c.loop-i.i _ true c.loop-i-test.true c.if-is_recovering.ensures in
     (omega (arith, step, c.loop-i.invariant), c.loop-i-test.true)
 
 pub loop-i-preserved : goal.loop-i-preserved
 loop-i-preserved c =
-    let step = first_step c.args.rows.now c.loop-i.i _ false c.loop-i-test.true c.if-is-recovering.ensures in
+    let step = first_step c.args.rows.now c.loop-i.i _ false c.loop-i-test.true c.if-is_recovering.ensures in
     omega (arith, step, c.loop-i.invariant)
 
 pub returns : goal.returns

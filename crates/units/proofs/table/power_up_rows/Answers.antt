@@ -8,8 +8,8 @@ loop-row-init c = far_none powered _
 
 pub loop-row-preserved : goal.loop-row-preserved
 loop-row-preserved c =
-    far_more powered c.args.rows.now c.loop-row.rows c.loop-row.row-index _ c.power-up.new.self
-    (search rules) c.power-up.ensures.record c.power-up.ensures.sound c.loop-row.invariant
+    far_more powered c.args.rows.now c.loop-row.rows c.loop-row.row-index _ c.power_up.new.self
+    (search rules) c.power_up.ensures.record c.power_up.ensures.sound c.loop-row.invariant
 
 pub returns : goal.returns
 returns c =

@@ -6,4 +6,4 @@ use Rattle.interfaces.proofs.table.Interfaces.unjam.Goals as goal
 pub returns : goal.returns
 returns c =
     let t = c.args.self.now in
-    record { list = ap (take t.count) c.unjam-list.ensures ∙ take-map unjammed t.count t.list; count = refl }
+    record { list = ap (take t.count) c.unjam_list.ensures ∙ take-map unjammed t.count t.list; count = refl }

@@ -52,11 +52,11 @@ returns-in-Ok g c =
     let buf = c.perform.new.buffer in
     let after = g.M.Medium.meaning c.perform.new.medium in
     let to = same_target l self.units s.interfaces s.phase m v c.requires c.barrier.result c.sense.result c.barrier.ensures c.sense.ensures in
-    let wrapper : c.csw.result ≡ csw w.tag (w.total - ended.moved) ended.status = c.csw.ensures ∙ ap (λ n. csw w.tag n ended.status) c.saturating-sub-residue.ensures in
-    let units : take l.unit_count (records_of c.set-sense.new.self) ≡ alter v (with_sense ended.sense) s.units =
-    ap (take l.unit_count) c.set-sense.ensures ∙ take_alter (with_sense ended.sense) l.unit_count v (records_of self.units) in
+    let wrapper : c.csw.result ≡ csw w.tag (w.total - ended.moved) ended.status = c.csw.ensures ∙ ap (λ n. csw w.tag n ended.status) c.saturating_sub-residue.ensures in
+    let units : take l.unit_count (records_of c.set_sense.new.self) ≡ alter v (with_sense ended.sense) s.units =
+    ap (take l.unit_count) c.set_sense.ensures ∙ take_alter (with_sense ended.sense) l.unit_count v (records_of self.units) in
     record {
-      bulk = ap (λ x. bulk_with 0 x (take ended.answered buf) buf (stick (take l.unit_count (records_of c.set-sense.new.self)) s.interfaces s.phase after)) wrapper
+      bulk = ap (λ x. bulk_with 0 x (take ended.answered buf) buf (stick (take l.unit_count (records_of c.set_sense.new.self)) s.interfaces s.phase after)) wrapper
           ∙ ap (λ us. bulk_with 0 (csw w.tag (w.total - ended.moved) ended.status) (take ended.answered buf) buf (stick us s.interfaces s.phase after)) units
           ∙ ap (out v w s) (c.in-Ok.ensures.carried ∙ ap (λ (t : Target). carried_out t w ds m) to)
           ∙ out_is v w s (layout_of l) ds;

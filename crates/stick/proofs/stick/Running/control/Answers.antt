@@ -12,14 +12,14 @@ pub returns : goal.returns
 returns g c =
     let of = stick_of g.M.Medium.meaning in
     let ds = c.args.buffer.now in
-    let bytes = c.as-slice-bytes.result.now in
+    let bytes = c.as_slice-bytes.result.now in
     let after = of c.transfer-2.new.self in
     let o = served (layout_of c.args.self.now.layout) c.args.setup.now ds (of c.args.self.now) in
     let reads : is_reading c.args.setup.now ≡ true = search rules in
-    let told : outcome 0 bytes after ≡ o = ap (λ b. outcome 0 b after) c.as-slice-bytes.ensures.bytes ∙ c.in-ok-answer.ensures.outcome in
+    let told : outcome 0 bytes after ≡ o = ap (λ b. outcome 0 b after) c.as_slice-bytes.ensures.bytes ∙ c.in_ok-answer.ensures.outcome in
     let z : length bytes - 0 ≡ length bytes = omega arith in
     record {
-      transfer = delivered ds c.copy-from-slice.new.self _ bytes after o told c.copy-from-slice.ensures.after (ap (λ k. drop k ds) z) ∙ sym (cond-true (is_reading c.args.setup.now) _ _ reads);
-      layout = c.in-ok-answer.ensures.layout;
-      bound = front_within c.copy-from-slice.new.self _ bytes c.copy-from-slice.ensures.after;
+      transfer = delivered ds c.copy_from_slice.new.self _ bytes after o told c.copy_from_slice.ensures.after (ap (λ k. drop k ds) z) ∙ sym (cond-true (is_reading c.args.setup.now) _ _ reads);
+      layout = c.in_ok-answer.ensures.layout;
+      bound = front_within c.copy_from_slice.new.self _ bytes c.copy_from_slice.ensures.after;
     }

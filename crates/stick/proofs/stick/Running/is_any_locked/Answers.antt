@@ -33,7 +33,7 @@ returns-in-Some g c =
     let known = has_range (layout_of l) cs l.interface_count i 0 refl l.each_counted f c.requires refl in
     let same = first_of first end f (f + get_or cs i 0) (c.in-Some.ensures.value ∙ sym known) in
     let size : end - first ≡ get_or cs i 0 = omega (arith, same.0, same.1) in
-    c.is-any.ensures
+    c.is_any.ensures
     ∙ ap any_locked (
     sym (take-map record_of (end - first) (drop first rows)) ∙ ap (take (end - first)) (sym (drop-map record_of first rows))
     ∙ ap (λ k. take k (drop first (records_of self.units))) size

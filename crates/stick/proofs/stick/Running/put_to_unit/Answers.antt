@@ -38,15 +38,15 @@ returns g c =
     let within : i < length t.list = omega (arith, t.full, t.few) in
     let p : put_of c.weigh.result ≡ sized c.args.put c.args.length c.args.data.now = c.weigh.ensures in
     let own : interface_at i s ≡ get_or t.list i (interface ScsiBbb false) = get_or-take t.count t.list i (interface ScsiBbb false) inside in
-    let ids : c.is-negotiable-negotiable.result ≡ is_negotiable (interface_at i s).ids =
-    c.is-negotiable-negotiable.ensures ∙ ap (λ (x : Interface). is_negotiable x.ids) (get_or_default t.list i _ (interface ScsiBbb false) within ∙ sym own) in
+    let ids : c.is_negotiable-negotiable.result ≡ is_negotiable (interface_at i s).ids =
+    c.is_negotiable-negotiable.ensures ∙ ap (λ (x : Interface). is_negotiable x.ids) (get_or_default t.list i _ (interface ScsiBbb false) within ∙ sym own) in
     let unit : get_or records v new_unit ≡ unit_at v s = sym (get_or-take l.unit_count records v new_unit low) in
     let n = is_negotiable (interface_at i s).ids in
     let q = sized c.args.put c.args.length c.args.data.now in
     let code : result_code c.put_to.result ≡ (turned n q (unit_at v s)).code =
     c.put_to.ensures.code
     ∙ cond-true (ltb v 16) _ _ (lt-ltb v 16 (omega (arith, l.few_units)))
-    ∙ ap (λ (u : UnitRecord). (turned c.is-negotiable-negotiable.result (put_of c.weigh.result) u).code) unit
+    ∙ ap (λ (u : UnitRecord). (turned c.is_negotiable-negotiable.result (put_of c.weigh.result) u).code) unit
     ∙ ap (λ (b : Bool). (turned b (put_of c.weigh.result) (unit_at v s)).code) ids
     ∙ ap (λ (x : UnitPut). (turned n x (unit_at v s)).code) p in
     let after : take l.unit_count (records_of c.put_to.new.self) ≡ alter v (λ u. (turned n q u).after) s.units =

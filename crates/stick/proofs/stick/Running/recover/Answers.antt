@@ -27,19 +27,19 @@ returns g c =
     let d = steps_done_of (unit_at v s).standing in
     let here : p ≡ q = sym (get_or-take l.unit_count l.places v (place 0 0) c.requires) in
     let unit : get_or records v new_unit ≡ unit_at v s = sym (get_or-take l.unit_count records v new_unit c.requires) in
-    let done : c.steps-done-done.result ≡ d = c.steps-done-done.ensures ∙ ap (λ (u : UnitRecord). steps_done_of u.standing) unit in
+    let done : c.steps_done-done.result ≡ d = c.steps_done-done.ensures ∙ ap (λ (u : UnitRecord). steps_done_of u.standing) unit in
     let each : ℕ → ℕ → UnitRecord → UnitRecord = λ n k u. advanced (leb n (16 * (k + 1))) u.standing u in
     let units : units_in l c.advance.new.self ≡ alter v (each q.count d) s.units =
     ap (take l.unit_count) c.advance.ensures
     ∙ take_alter (λ u. each p.count (steps_done_of u.standing) u) l.unit_count v records
     ∙ alter_at (λ u. each p.count (steps_done_of u.standing) u) (each p.count d) v s.units new_unit refl
     ∙ ap (λ (x : Place). alter v (each x.count d) s.units) here in
-    let blocks : g.M.Medium.meaning c.zero-step.new.medium ≡ zeroed (q.start + 16 * d) (min 16 (q.count - 16 * d)) m =
-    c.zero-step.ensures
+    let blocks : g.M.Medium.meaning c.zero_step.new.medium ≡ zeroed (q.start + 16 * d) (min 16 (q.count - 16 * d)) m =
+    c.zero_step.ensures
     ∙ ap (λ k. zeroed (p.start + 16 * k) (min 16 (p.count - 16 * k)) m) done
     ∙ ap (λ (x : Place). zeroed (x.start + 16 * d) (min 16 (x.count - 16 * d)) m) here in
     record {
-      stick = ap (λ (us : List UnitRecord). stick us s.interfaces s.phase (g.M.Medium.meaning c.zero-step.new.medium)) units
+      stick = ap (λ (us : List UnitRecord). stick us s.interfaces s.phase (g.M.Medium.meaning c.zero_step.new.medium)) units
           ∙ ap (λ (x : List Block). stick (alter v (each q.count d) s.units) s.interfaces s.phase x) blocks;
       layout = refl;
     }

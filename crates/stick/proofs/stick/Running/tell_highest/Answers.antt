@@ -17,7 +17,7 @@ returns g c =
     let lay = layout_of l in
     let one : n ≡ 1 = search rules in
     let count = count_at lay l.unit_counts l.interface_count i refl l.each_counted c.if-i-self.false in
-    let highest : c.saturating-sub-highest.result ≡ get_or lay.counts i 0 - 1 = omega (arith, count) in
+    let highest : c.saturating_sub-highest.result ≡ get_or lay.counts i 0 - 1 = omega (arith, count) in
     record {
       outcome = c.cut.ensures.outcome s
           ∙ ap (λ h. answered n room (h ∷ []) s) highest

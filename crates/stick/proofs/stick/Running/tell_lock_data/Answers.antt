@@ -25,7 +25,7 @@ returns g c =
     let unit : get_or records v new_unit ≡ unit_at v s = sym (get_or-take l.unit_count records v new_unit low) in
     record {
       outcome = c.cut.ensures.outcome s
-          ∙ ap (λ w. answered n room w s) (c.as-slice.ensures.bytes ∙ c.lock-data-whole.ensures)
+          ∙ ap (λ w. answered n room w s) (c.as_slice.ensures.bytes ∙ c.lock_data-whole.ensures)
           ∙ ap (λ b. answered n room (lock_data b i k (get_or records v new_unit)) s) blocks
           ∙ ap (λ u. answered n room (lock_data (blocks_of lay v) i k u) s) unit
           ∙ ap (λ (o : Option ℕ). tell_lock_data lay o i k n room s) c.in-Some.ensures.value;

@@ -14,8 +14,8 @@ returns-in-Some g c =
       layout = c.recover.ensures.layout;
     }
 
-pub returns-in-default : goal.returns-in-default
-returns-in-default g c =
+pub returns-in_default : goal.returns-in_default
+returns-in_default g c =
     let self = c.args.self.now in
     let s = stick_of g.M.Medium.meaning self in
-    record { stick = rests (layout_of self.layout) s self.units.rows self.layout.unit_count refl c.in-default.ensures; layout = refl }
+    record { stick = rests (layout_of self.layout) s self.units.rows self.layout.unit_count refl c.in_default.ensures; layout = refl }

@@ -11,10 +11,10 @@ pub returns : goal.returns
 returns g c =
     let l = c.args.self.layout in
     let m = g.M.Medium.meaning c.args.self.medium in
-    let units = ap (take l.unit_count) c.power-up.ensures ∙ take-map powered l.unit_count (records_of c.args.self.units) in
+    let units = ap (take l.unit_count) c.power_up.ensures ∙ take-map powered l.unit_count (records_of c.args.self.units) in
     record {
-      stick = ap (λ us. stick us (interfaces_of c.interfaces-up-interfaces.result) Present m) units
-          ∙ ap (λ is. stick (map powered (take l.unit_count (records_of c.args.self.units))) is Present m) c.interfaces-up-interfaces.ensures.list;
+      stick = ap (λ us. stick us (interfaces_of c.interfaces_up-interfaces.result) Present m) units
+          ∙ ap (λ is. stick (map powered (take l.unit_count (records_of c.args.self.units))) is Present m) c.interfaces_up-interfaces.ensures.list;
       layout = refl;
       same = refl;
     }

@@ -6,20 +6,20 @@ use Rattle.units.specs.Tables.{records_of}
 use Rattle.stick.proofs.Ups.{upped_none, upped_more, upped_all, upped_room}
 use Rattle.stick.proofs.stick.power.interfaces_up.Goals as goal
 
-pub overflow-add-end : goal.overflow-add-end
-overflow-add-end c =
+pub overflow_add-end : goal.overflow_add-end
+overflow_add-end c =
     let l = c.args.layout.now in
     let room = upped_room (layout_of l) l.unit_counts l.interface_count l.unit_count (records_of c.args.units.now) refl l.all_units c.loop-i.i c.loop-i.first 16 c.loop-i.list (search rules) l.few_units c.loop-i.invariant in
     omega arith
 
-pub offset-bounds-units-first : goal.offset-bounds-units-first
-offset-bounds-units-first c =
+pub offset_bounds-units-first : goal.offset_bounds-units-first
+offset_bounds-units-first c =
     let l = c.args.layout.now in
     let room = upped_room (layout_of l) l.unit_counts l.interface_count l.unit_count (records_of c.args.units.now) refl l.all_units c.loop-i.i c.loop-i.first 16 c.loop-i.list (search rules) l.few_units c.loop-i.invariant in
     omega arith
 
-pub slice-bounds-interface-up-end : goal.slice-bounds-interface-up-end
-slice-bounds-interface-up-end c =
+pub slice_bounds-interface_up-end : goal.slice_bounds-interface_up-end
+slice_bounds-interface_up-end c =
     let l = c.args.layout.now in
     let room = upped_room (layout_of l) l.unit_counts l.interface_count l.unit_count (records_of c.args.units.now) refl l.all_units c.loop-i.i c.loop-i.first 16 c.loop-i.list (search rules) l.few_units c.loop-i.invariant in
     search rules

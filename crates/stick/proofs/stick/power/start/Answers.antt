@@ -12,11 +12,11 @@ returns g c =
     let lay = fitted_layout c.args.layout_bytes.now (length m) in
     let cold = c.fit.result in
     record {
-      stick = c.power-up.ensures.stick
+      stick = c.power_up.ensures.stick
           ∙ ap (λ l. powered_up l (units_in cold.layout cold.units) (g.M.Medium.meaning cold.medium)) c.fit.ensures.layout
           ∙ ap (λ us. powered_up lay us (g.M.Medium.meaning cold.medium)) c.fit.ensures.units
           ∙ ap (powered_up lay (fitted_units lay)) c.fit.ensures.medium
           ∙ first_power_up lay m;
-      layout = c.power-up.ensures.layout ∙ c.fit.ensures.layout;
-      same = c.power-up.ensures.same ∙ c.fit.ensures.same;
+      layout = c.power_up.ensures.layout ∙ c.fit.ensures.layout;
+      same = c.power_up.ensures.same ∙ c.fit.ensures.same;
     }

@@ -11,4 +11,4 @@ returns-then-room-min c =
 pub returns : goal.returns
 returns c =
     let size : c.min.result ≡ min c.args.wanted (length c.args.whole.now) = omega arith in
-    record { outcome = λ s. cut_whole c.args.whole.now c.args.wanted c.min.result c.args.room size s 119 (answer_of c.answer-from.result) c.if-room-min.false c.requires c.answer-from.ensures.value; room = cut_room c.args.whole.now c.args.wanted c.min.result c.args.room size 119 (answer_of c.answer-from.result) c.if-room-min.false c.answer-from.ensures.value }
+    record { outcome = λ s. cut_whole c.args.whole.now c.args.wanted c.min.result c.args.room size s 119 (answer_of c.answer_from.result) c.if-room-min.false c.requires c.answer_from.ensures.value; room = cut_room c.args.whole.now c.args.wanted c.min.result c.args.room size 119 (answer_of c.answer_from.result) c.if-room-min.false c.answer_from.ensures.value }

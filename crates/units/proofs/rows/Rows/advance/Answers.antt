@@ -12,21 +12,19 @@ step blocks u = advanced (leb blocks (16 * (steps_done_of u.standing + 1))) u.st
 pub advance-requires : goal.advance-requires
 advance-requires c = sound_at c.args.self.now.rows c.args.index _ (omega (arith, c.args.self.now.full)) c.args.self.now.sound
 
-pub invariant-of-self : goal.invariant-of-self
-invariant-of-self c =
-    let s = c.args.self.now in (
-      length-set s.rows c.args.index c.advance.new.self ∙ s.full,
-      (sound_set s.rows c.args.index c.advance.new.self c.advance.ensures.sound s.sound, tt),
-    )
+pub invariant_of-self : goal.invariant_of-self
+invariant_of-self c =
+    let s = c.args.self.now in
+    record { full = length-set s.rows c.args.index c.advance.new.self ∙ s.full; sound = sound_set s.rows c.args.index c.advance.new.self c.advance.ensures.sound s.sound }
 
-pub returns-then-index-lt-MOST-UNITS : goal.returns-then-index-lt-MOST-UNITS
-returns-then-index-lt-MOST-UNITS c =
+pub returns-then-index-lt-MOST_UNITS : goal.returns-then-index-lt-MOST_UNITS
+returns-then-index-lt-MOST_UNITS c =
     let s = c.args.self.now in
     let low : c.args.index < length s.rows = omega (arith, s.full) in
     row_altered (step c.args.blocks) s.rows c.args.index _ c.advance.new.self new_unit low c.advance.ensures.record
 
-pub returns-else-index-lt-MOST-UNITS : goal.returns-else-index-lt-MOST-UNITS
-returns-else-index-lt-MOST-UNITS c =
+pub returns-else-index-lt-MOST_UNITS : goal.returns-else-index-lt-MOST_UNITS
+returns-else-index-lt-MOST_UNITS c =
     let s = c.args.self.now in
     let past : length (records_of s) ≤ c.args.index = rw length-map (omega (arith, s.full)) in
     sym (alter_past (step c.args.blocks) (records_of s) c.args.index past)
