@@ -11,11 +11,12 @@ use Rattle.units.specs.declared.rows.Rows.{Rows}
 use Rattle.interfaces.specs.Tables.{interfaces_of}
 use Rattle.stick.specs.declared.stick.Unpowered.{Unpowered}
 use Rattle.stick.specs.declared.stick.Running.{Running}
+use Rattle.medium.specs.declared.Medium.{Ghosts}
 
 -- the records of the units that the layout has
 abbrev pub units_in : table.Layout → Rows → List UnitRecord
 units_in l t = take l.unit_count (records_of t)
 
-module _ {M : Type 0} (meaning : M → List Block) where
-  abbrev pub stick_of : Running M → Stick
+module _ {M : Type 0} {m : Ghosts M} (meaning : M → List Block) where
+  abbrev pub stick_of : Running M m → Stick
   stick_of r = stick (units_in r.layout r.units) (interfaces_of r.interfaces) r.phase (meaning r.medium)
