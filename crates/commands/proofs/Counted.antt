@@ -1,11 +1,11 @@
 -- How many bytes a run of good blocks has, and what that means for the end of a transfer.
-use Rattle.std.proofs.Common.{◌≡◌, ℕ, zero, suc, ◌+◌, ◌*◌, ◌<◌, ◌≤◌, Bool, true, false, cond, eqb, List, [], ◌∷◌, ◌++◌, length, get_or, take, drop, sym, refl, ap, ◌∙◌, arith}
+use Rattle.std.proofs.Common.{◌≡◌, ℕ, zero, suc, ◌+◌, ◌*◌, ◌<◌, true, false, eqb, List, [], ◌∷◌, ◌++◌, length, get_or, take, drop, sym, refl, ap, ◌∙◌, arith}
 use Rattle.std.specs.List.{AllByRecursion as All}
 use Rattle.std.proofs.lemmas.List.{length-append, take_at}
 use Rattle.std.proofs.lemmas.Bool.{cond-true, cond-false}
 use Rattle.std.proofs.lemmas.Bool.Decides.{nat_tests}
 use Rattle.model.specs.Blocks.{Block, bad, good, Whole, bytes_or}
-use Rattle.model.specs.Commands.{Ending, ending, one_more, good_run, bytes_from, moved_blocks, read_blocks}
+use Rattle.model.specs.Commands.{ending, one_more, good_run, bytes_from, moved_blocks, read_blocks}
 use Rattle.model.specs.declared.command.Status.TheVariants.{Passed, Failed}
 use Rattle.model.specs.declared.sense.Sense.{Sense}
 use Rattle.model.specs.declared.sense.Sense.TheVariants.{None, ReadFault}

@@ -1,5 +1,5 @@
 -- A command that fails before any data.
-use Rattle.std.proofs.Common.{◌≡◌, ℕ, ◌≤◌, false, cond, ltb, List, length, Some, Option, sym, ap, ◌∙◌}
+use Rattle.std.proofs.Common.{◌≡◌, ℕ, ◌≤◌, cond, ltb, List, length, Some, Option, sym, ap, ◌∙◌}
 use Rattle.std.proofs.lemmas.Bool.{cond-false, le-ltb}
 use Rattle.model.specs.Blocks.{Block}
 use Rattle.model.specs.Commands.{Ending, ending, failed, failure, mismatched, moving, performed, unless_failed}
@@ -7,7 +7,7 @@ use Rattle.model.specs.declared.command.Cbw.{Cbw}
 use Rattle.model.specs.declared.command.Status.TheVariants.{PhaseError}
 use Rattle.model.specs.declared.refusal.Refusal.TheVariants.{ShortBuffer}
 use Rattle.model.specs.declared.sense.Sense.{Sense}
-use Rattle.commands.specs.Endings.{Carried, carried_with, carried_out, done, turned}
+use Rattle.commands.specs.Endings.{carried_with, carried_out, done, turned}
 use Rattle.commands.specs.declared.ended.Target.{Target}
 
 pub fails_first : (t : Target) (c : Cbw) (ds : List ℕ) (m : List Block) (x : Sense) (e : Ending) → c.total ≤ length ds

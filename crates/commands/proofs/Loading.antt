@@ -1,13 +1,12 @@
 -- Blocks read one after another into a buffer, up to the first bad one.
-use Rattle.std.proofs.Common.{◌≡◌, ℕ, zero, suc, ◌+◌, ◌-◌, ◌*◌, ◌<◌, ◌≤◌, ◌⊎◌, List, [], ◌∷◌, ◌++◌, length, get_or, take, drop, Ok, Err, Result, sym, refl, ap, ◌∙◌, subst, inl, inr, ⊎_elim, arith}
+use Rattle.std.proofs.Common.{◌≡◌, ℕ, suc, ◌+◌, ◌-◌, ◌*◌, ◌<◌, ◌≤◌, List, [], ◌++◌, length, get_or, take, drop, Ok, Err, Result, sym, refl, ap, ◌∙◌, ⊎_elim, arith}
 use borrow.Rule.Slice.PartMut.{put_mid}
 use Rattle.std.proofs.lemmas.List.{append_assoc, drop-drop, take-append-drop, length-append, length-take, length-drop, get_or_past}
 use Rattle.std.proofs.lemmas.Slice.{take-put_mid, drop-put_mid}
 use Rattle.model.specs.Blocks.{Block, bad, good, bytes_or, answer, filled}
 use Rattle.model.specs.Commands.{one_more, good_run, bytes_from}
 use Rattle.model.specs.declared.refusal.Fault.{Fault}
-use Rattle.medium.specs.Laws.{Good_at}
-use Rattle.medium.proofs.Calls.{Way, outside, at_bad, at_good, way, good_from, read_good, refused_read}
+use Rattle.medium.proofs.Calls.{Way, outside, at_bad, at_good, way, good_from, read_good}
 use Rattle.commands.specs.Transfers.{loaded}
 
 -- what a call for a block showed

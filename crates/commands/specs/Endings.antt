@@ -1,5 +1,5 @@
 -- What the end of a command means, in the model's words.
-use Rattle.std.specs.Prelude.{ℕ, cond, List, [], ◌++◌, length, take, drop, Ok, Err, Result, nat_lt}
+use Rattle.std.specs.Prelude.{ℕ, cond, List, ◌++◌, length, take, drop, Ok, Err, Result, nat_lt}
 use Rattle.model.specs.Blocks.{Block}
 use Rattle.model.specs.Commands.{Ending, ending, failed, performed}
 use Rattle.model.specs.Refusals.{refusal_number}

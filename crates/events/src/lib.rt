@@ -1,5 +1,6 @@
 // What a line of the script makes happen on the bus.
 // The bytes are the event's own, so that an answer can be stored in them.
+#![tactic(auto)]
 
 #[derive(Drop)]
 pub enum Event {

@@ -1,9 +1,9 @@
 -- What the search answers, in words: an element that holds the position, the only one of a list that passes the check.
-use Rattle.std.proofs.Common.{◌≡◌, ℕ, zero, suc, ◌+◌, ◌<◌, ◌≤◌, Bool, true, false, cond, ◌&&◌, ltb, leb, ◌⊎◌, List, [], ◌∷◌, length, get_or, Some, None, Option, sym, refl, ap, ◌∙◌, subst, inl, inr, ⊎_elim, arith}
+use Rattle.std.proofs.Common.{◌≡◌, ℕ, zero, suc, ◌+◌, ◌<◌, ◌≤◌, Bool, true, false, cond, ltb, leb, List, [], ◌∷◌, length, Some, None, Option, sym, refl, ap, subst, ⊎_elim, arith}
 use Rattle.std.specs.List.{HoldsAt, AllByRecursion as All}
 use Rattle.std.proofs.ByRecursion.{All-get_or}
 use Rattle.std.proofs.lemmas.Bool.{and_parts, and_from, ltb-true, leb-true, lt-ltb, le-leb, cases_Bool, both_ways}
-use Rattle.model.specs.Extents.{Fitting, Apart, Sound, Holds, holds, found, Finds}
+use Rattle.model.specs.Extents.{Sound, Holds, holds, found, Finds}
 
 module _ {E : Type 0} (start len : E → ℕ) where
   holds_true : (pos : ℕ) (x : E) → holds start len pos x ≡ true → Holds start len pos x

@@ -1,5 +1,7 @@
 // One order check and one search, for everything that has a start and a length.
 // The check is true exactly where the predicate holds; the search answers which element holds a position.
+#![tactic(auto)]
+
 pub mod kinds;
 
 ghost use Rattle.std.specs.Prelude.{◌≡◌, ℕ, ◌+◌, Decides};

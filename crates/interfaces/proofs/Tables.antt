@@ -1,5 +1,5 @@
 -- One element of a table changed.
-use Rattle.std.proofs.Common.{◌≡◌, ℕ, zero, suc, ◌≤◌, List, [], ◌∷◌, length, take, set, refl, ap, ◌∙◌, arith}
+use Rattle.std.proofs.Common.{◌≡◌, ℕ, zero, suc, ◌≤◌, List, [], ◌∷◌, length, take, set, refl, ap, arith}
 use Rattle.model.specs.Control.{alter}
 
 module _ {A : Type 0} (y : A) where

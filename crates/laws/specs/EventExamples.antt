@@ -1,5 +1,5 @@
 -- Worked examples, as one statement about the definitions: each is computed from the bytes of transfers.
-use Rattle.std.specs.Prelude.{◌≡◌, ℕ, ◌+◌, Bool, true, false, List, [], ◌∷◌, ◌++◌, map, length, get_or, replicate}
+use Rattle.std.specs.Prelude.{◌≡◌, ℕ, ◌+◌, false, List, [], ◌∷◌, ◌++◌, map, length, replicate}
 use Rattle.model.specs.Blocks.{Block, good}
 use Rattle.model.specs.Bytes.{le16, le32}
 use Rattle.model.specs.Control.{unit_at}
@@ -8,7 +8,6 @@ use Rattle.model.specs.Layouts.{Layout, layout, place}
 use Rattle.model.specs.Sticks.{Stick, first, interface}
 use Rattle.model.specs.Units.{Standing, unlocked}
 use Rattle.model.specs.declared.ids.Ids.TheVariants.{Negotiable}
-use Rattle.model.specs.declared.ids.Phase.{Phase}
 use Rattle.model.specs.declared.ids.Phase.TheVariants.{Present, Idle, Gone}
 
 -- all that is answered to an event, a CSW first

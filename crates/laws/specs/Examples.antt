@@ -1,8 +1,7 @@
 -- Worked examples, as one statement about the definitions: each is computed from the bytes of transfers.
-use Rattle.std.specs.Prelude.{◌≡◌, ℕ, ◌+◌, Bool, true, false, List, [], ◌∷◌, ◌++◌, map, length, get_or, replicate}
+use Rattle.std.specs.Prelude.{◌≡◌, ℕ, ◌+◌, List, [], ◌∷◌, ◌++◌, length, replicate}
 use Rattle.model.specs.Bytes.{le16, le32}
-use Rattle.model.specs.Control.{Transferred, controlled, unit_at}
-use Rattle.model.specs.Descriptors.{device_descriptor}
+use Rattle.model.specs.Control.{controlled, unit_at}
 use Rattle.model.specs.Layouts.{Layout, layout, place}
 use Rattle.model.specs.Sticks.{Stick, first, repowered}
 use Rattle.model.specs.Units.{Standing, unlocked}

@@ -1,5 +1,6 @@
 // Laws above the model: what its definitions say in the subject's own words.
 // Each is the contract of a function that computes nothing, so that no law stands unproved.
+#![tactic(auto)]
 
 pub mod bulk;
 pub mod examples;

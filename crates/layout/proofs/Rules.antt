@@ -1,11 +1,11 @@
 -- The rules for layout bytes, one by one.
-use Rattle.std.proofs.Common.{◌≡◌, ℕ, ◌+◌, ◌*◌, ◌%◌, ◌≤◌, min, Bool, true, false, cond, ◌&&◌, eqb, List, length, take, drop, Some, None, Option, sym, refl, ap, ◌∙◌, arith}
+use Rattle.std.proofs.Common.{◌≡◌, ℕ, ◌+◌, ◌*◌, ◌%◌, ◌≤◌, min, Bool, true, false, cond, ◌&&◌, eqb, List, length, take, drop, Some, None, sym, refl, ap, arith}
 use Rattle.std.proofs.lemmas.List.{length-take}
 use Rattle.std.proofs.lemmas.Bool.{and_left, and_right, and_from, cond-true, cond-false}
 use Rattle.model.specs.Bytes.{byte, le16, between}
 use Rattle.model.specs.Extents.{sound}
 use Rattle.model.specs.declared.layout.Place.{Place}
-use Rattle.model.specs.Layouts.{Layout, layout, sum, pairs, all_between, place_start, place_count, layout_rules, said_layout}
+use Rattle.model.specs.Layouts.{layout, sum, pairs, all_between, place_start, place_count, layout_rules, said_layout}
 
 abbrev pub counts_in : List ℕ → List ℕ
 counts_in bs = take (byte bs 6) (drop 7 bs)

@@ -1,5 +1,7 @@
 // The layout of a stick: its IDs, how many units each interface has, and where each unit lies on the medium.
 // Layout bytes are inspected by every rule; fitting after that is total.
+#![tactic(auto)]
+
 pub mod places;
 pub mod read;
 pub mod table;

@@ -1,5 +1,7 @@
 // A medium: up to 1,024 blocks of 512 bytes, each good or bad, known to the rest only by what it means.
 // Here are the calls that every medium has, their laws, and what the makes of medium share.
+#![tactic(auto)]
+
 pub mod admission;
 pub mod bad_runs;
 pub mod laws;

@@ -1,11 +1,11 @@
 -- The first power-up: new units stay new, and no interface is Negotiable.
-use Rattle.std.proofs.Common.{◌≡◌, ℕ, zero, suc, ◌+◌, ◌-◌, Bool, true, false, cond, List, [], ◌∷◌, map, length, get_or, take, drop, replicate, sym, refl, ap, ◌∙◌}
+use Rattle.std.proofs.Common.{◌≡◌, ℕ, zero, suc, ◌+◌, ◌-◌, false, cond, List, ◌∷◌, map, length, get_or, take, drop, replicate, refl, ap, ◌∙◌}
 use Rattle.std.specs.List.{range_with_len}
 use Rattle.std.proofs.lemmas.List.{drop-replicate}
 use Rattle.model.specs.Blocks.{Block}
 use Rattle.model.specs.Layouts.{Layout, sum}
-use Rattle.model.specs.Sticks.{stick, interface, interface_up, units_of_interface, powered_up, fitted_units, first}
-use Rattle.model.specs.Units.{UnitRecord, new_unit, any_phrase, powered}
+use Rattle.model.specs.Sticks.{stick, interface, interface_up, powered_up, fitted_units, first}
+use Rattle.model.specs.Units.{new_unit, any_phrase, powered}
 use Rattle.model.specs.declared.ids.Ids.TheVariants.{Negotiable, ScsiBbb}
 use Rattle.model.specs.declared.ids.Phase.TheVariants.{Present}
 

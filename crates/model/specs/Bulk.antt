@@ -1,5 +1,5 @@
 -- Bulk commands: what each answers, what it changes, and what the handed buffer then holds.
-use Rattle.std.specs.Prelude.{ℕ, ◌-◌, Bool, true, false, cond, List, [], ◌++◌, length, drop, Some, None, Option, nat_lt, slice_index_or}
+use Rattle.std.specs.Prelude.{ℕ, ◌-◌, true, cond, List, [], ◌++◌, length, drop, Some, None, Option, nat_lt, slice_index_or}
 use Rattle.model.specs.Commands.{Ending, barrier, performed}
 use Rattle.model.specs.Control.{alter, find_unit, unit_at, interface_at, with_interfaces}
 use Rattle.model.specs.Layouts.{Layout, place}

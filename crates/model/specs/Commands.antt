@@ -1,5 +1,5 @@
 -- What a command does on its unit: the checks in their order, then the data.
-use Rattle.std.specs.Prelude.{ℕ, zero, suc, ◌+◌, ◌-◌, ◌*◌, min, Bool, true, false, cond, not, ◌&&◌, ◌||◌, List, [], ◌∷◌, ◌++◌, length, take, drop, replicate, Option, ◌==◌, nat_le, nat_lt, slice_index_or}
+use Rattle.std.specs.Prelude.{ℕ, zero, suc, ◌+◌, ◌-◌, ◌*◌, min, Bool, true, false, cond, ◌&&◌, ◌||◌, List, [], ◌∷◌, ◌++◌, length, take, drop, replicate, Option, ◌==◌, nat_le, nat_lt, slice_index_or}
 use Rattle.std.specs.declared.option.Option.TheVariants as option
 use Rattle.model.specs.Blocks.{Block, bad, good, bytes_or, written}
 use Rattle.model.specs.Bytes.{be32_of}

@@ -1,18 +1,17 @@
 -- Control transfers: what each answers, what it changes, and what the handed buffer then holds.
-use Rattle.std.specs.Prelude.{ℕ, zero, suc, ◌+◌, ◌-◌, Bool, true, false, cond, not, ◌&&◌, List, [], ◌∷◌, ◌++◌, length, take, drop, replicate, Some, None, Option, ◌==◌, nat_lt, slice_index, slice_index_or}
+use Rattle.std.specs.Prelude.{ℕ, zero, suc, ◌+◌, ◌-◌, Bool, false, cond, not, ◌&&◌, List, [], ◌∷◌, ◌++◌, length, take, drop, replicate, Some, None, Option, ◌==◌, nat_lt, slice_index, slice_index_or}
 use Rattle.model.specs.Bytes.{between}
 use Rattle.model.specs.Descriptors.{device_descriptor, bundle}
 use Rattle.model.specs.Identities.{is_negotiable}
 use Rattle.model.specs.Layouts.{Layout, sum, place, place_count}
 use Rattle.model.specs.LockData.{lock_data}
 use Rattle.model.specs.Parts.{Access, access_in}
-use Rattle.model.specs.Puts.{UnitPut, misfit, carried, Turn, turned}
+use Rattle.model.specs.Puts.{UnitPut, misfit, carried, turned}
 use Rattle.model.specs.Refusals.{refusal_number}
 use Rattle.model.specs.Requests.{shortest, longest, requested, is_reading}
 use Rattle.model.specs.Sticks.{Stick, stick, interface, units_of_interface}
 use Rattle.model.specs.Units.{UnitRecord, new_unit, any_locked}
-use Rattle.model.specs.declared.ids.Ids.{Ids}
-use Rattle.model.specs.declared.ids.Ids.TheVariants.{Negotiable, ScsiBbb}
+use Rattle.model.specs.declared.ids.Ids.TheVariants.{ScsiBbb}
 use Rattle.model.specs.declared.ids.Interface.{Interface}
 use Rattle.model.specs.declared.ids.Phase.{Phase}
 use Rattle.model.specs.declared.ids.Phase.TheVariants.{Present}

@@ -1,5 +1,5 @@
 -- The descriptors that a host reads, to the byte.
-use Rattle.std.specs.Prelude.{ℕ, ◌+◌, ◌*◌, ◌^◌, Bool, true, false, List, [], ◌∷◌, ◌++◌, length}
+use Rattle.std.specs.Prelude.{ℕ, ◌+◌, ◌*◌, ◌^◌, List, [], ◌∷◌, ◌++◌, length}
 use Rattle.model.specs.Bytes.{le16_of}
 use Rattle.model.specs.Identities.{ids_values}
 use Rattle.model.specs.Layouts.{Layout}

@@ -1,6 +1,6 @@
 -- Layout bytes: idVendor, product base and bcdDevice (2 bytes each), the number of interfaces n, n unit counts (1 byte each), then a
 -- start and a length (4 bytes each) for each unit.
-use Rattle.std.specs.Prelude.{ℕ, zero, suc, ◌+◌, ◌*◌, ◌%◌, Bool, true, false, cond, ◌&&◌, List, [], ◌∷◌, length, take, drop, ◌==◌}
+use Rattle.std.specs.Prelude.{ℕ, zero, suc, ◌+◌, ◌*◌, ◌%◌, Bool, true, cond, ◌&&◌, List, [], ◌∷◌, length, take, drop, ◌==◌}
 use Rattle.model.specs.Bytes.{byte, le16, le32, between}
 use Rattle.model.specs.Extents.{sound}
 use Rattle.model.specs.declared.layout.Place.{Place}

@@ -1,5 +1,5 @@
 -- The parts of a Put's data. A part is bLength, 25h, its bytes, and a last byte: 00h of a passphrase or a candidate, any of a hint.
-use Rattle.std.specs.Prelude.{ℕ, zero, suc, ◌+◌, ◌-◌, Bool, true, false, cond, ◌&&◌, List, [], ◌∷◌, length, take, drop, Some, None, Option, ◌==◌, slice_index_or}
+use Rattle.std.specs.Prelude.{ℕ, zero, suc, ◌+◌, ◌-◌, Bool, cond, ◌&&◌, List, [], ◌∷◌, length, take, drop, Some, None, Option, ◌==◌, slice_index_or}
 use Rattle.model.specs.Bytes.{byte, le32, between}
 use Rattle.model.specs.Extents.{sound}
 use Rattle.model.specs.declared.ids.Ids.{Ids}

@@ -1,5 +1,5 @@
 -- The clock and the bus: how an interface change runs its time and ends, and what a bus reset clears.
-use Rattle.std.specs.Prelude.{ℕ, ◌-◌, Bool, false, cond, List, map, nat_le}
+use Rattle.std.specs.Prelude.{ℕ, ◌-◌, false, cond, map, nat_le}
 use Rattle.model.specs.Control.{alter, unjammed, with_interfaces, with_phase}
 use Rattle.model.specs.Sticks.{Stick, stick, interface}
 use Rattle.model.specs.Units.{UnitRecord, unit_record}

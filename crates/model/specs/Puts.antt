@@ -1,9 +1,7 @@
 -- What a Put does to one unit's record.
-use Rattle.std.specs.Prelude.{ℕ, ◌+◌, min, Bool, true, false, cond, ◌&&◌, List, [], ◌∷◌, Some, None, Option, nat_lt}
+use Rattle.std.specs.Prelude.{ℕ, ◌+◌, min, Bool, true, false, cond, ◌&&◌, List, [], Some, None, Option, nat_lt}
 use Rattle.std.specs.Str.{bytes_eq}
 use Rattle.model.specs.Parts.{Secret, candidate_in, secret_in, change_in}
-use Rattle.model.specs.Requests.{shortest, longest}
-use Rattle.model.specs.Bytes.{between}
 use Rattle.model.specs.Refusals.{refusal_number}
 use Rattle.model.specs.Units.{Standing, impersonal, locked, unlocked, recovering, UnitRecord, unit_record}
 use Rattle.model.specs.declared.refusal.Refusal.{Refusal}

@@ -1,6 +1,6 @@
 -- What the setup bytes of a control transfer ask for: bmRequestType, bRequest (1 byte each), wValue, wIndex, wLength (2 each).
 -- Nothing here sees the stick.
-use Rattle.std.specs.Prelude.{ℕ, Bool, true, false, cond, ◌&&◌, List, [], ◌∷◌, length, Some, None, Option, ◌==◌, nat_le}
+use Rattle.std.specs.Prelude.{ℕ, Bool, true, cond, ◌&&◌, List, length, Some, None, Option, ◌==◌, nat_le}
 use Rattle.model.specs.Bytes.{byte, le16, between}
 use Rattle.model.specs.declared.request.Put.{Put}
 use Rattle.model.specs.declared.request.Put.TheVariants.{StorePassphrase, MatchPassphrase, ChangePassphrase, ErasePassphrase, EraseForgottenPassphrase, LockAgain, ChangeInterfaceAccess}

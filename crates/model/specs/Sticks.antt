@@ -1,5 +1,5 @@
 -- A stick by its meaning: what stands on it without power, and what power-up makes of that.
-use Rattle.std.specs.Prelude.{ℕ, Bool, true, false, cond, List, [], ◌∷◌, map, length, take, drop, replicate, slice_index}
+use Rattle.std.specs.Prelude.{ℕ, Bool, false, cond, List, map, length, take, drop, replicate, slice_index}
 use Rattle.std.specs.List.{range_with_len}
 use Rattle.model.specs.Blocks.{Block}
 use Rattle.model.specs.Layouts.{Layout, sum}

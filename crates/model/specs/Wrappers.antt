@@ -1,6 +1,6 @@
 -- The command block wrapper (CBW): signature, tag (4), transfer length (4), flags, unit, command length (1 each), command (16);
 -- and the command status wrapper (CSW): signature, tag (4), residue (4), status. Nothing here sees the stick.
-use Rattle.std.specs.Prelude.{ℕ, ◌+◌, ◌%◌, Bool, true, false, cond, ◌&&◌, ◌||◌, List, [], ◌∷◌, ◌++◌, length, Some, None, Option, ◌==◌, nat_le}
+use Rattle.std.specs.Prelude.{ℕ, ◌%◌, Bool, cond, ◌&&◌, ◌||◌, List, [], ◌∷◌, ◌++◌, length, Some, None, Option, ◌==◌, nat_le}
 use Rattle.model.specs.Bytes.{byte, le32, be16, be32, le32_of, between}
 use Rattle.model.specs.Refusals.{refusal_number}
 use Rattle.model.specs.declared.command.Cbw.{Cbw}

@@ -1,6 +1,6 @@
 -- What data carry, once their parts are known to fill them.
-use Rattle.std.proofs.Common.{◌≡◌, ℕ, Bool, true, false, cond, List, get_or, Some, None, Option, sym, refl, ap, ◌∙◌, arith}
-use Rattle.model.specs.Parts.{Secret, part, cut_parts, parts_fill, part_bytes, nth_part, phrase_in, hint_in, secret_of, change_of, secret_in, change_in}
+use Rattle.std.proofs.Common.{◌≡◌, ℕ, Bool, true, false, cond, List, get_or, Some, None, sym, refl, ap, ◌∙◌, arith}
+use Rattle.model.specs.Parts.{part, cut_parts, parts_fill, part_bytes, nth_part, phrase_in, hint_in, secret_of, change_of, secret_in, change_in}
 use Rattle.model.specs.declared.part.Part.{Part}
 
 -- parts were found, so the test was passed

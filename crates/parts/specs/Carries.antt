@@ -1,5 +1,5 @@
 -- What a borrowed Put means. A passphrase over 50 bytes or a hint over 100 counts as malformed, whoever hands it in.
-use Rattle.std.specs.Prelude.{ℕ, Bool, true, false, cond, ◌&&◌, List, length, Some, None, Option, nat_le}
+use Rattle.std.specs.Prelude.{ℕ, Bool, cond, ◌&&◌, List, length, Some, None, Option, nat_le}
 use Rattle.model.specs.Parts.{Secret, secret}
 use Rattle.model.specs.Puts.{misfit, store, match, change, erase, forget, lock_again}
 use Rattle.model.specs.Puts

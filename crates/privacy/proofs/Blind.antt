@@ -18,7 +18,7 @@ use Rattle.model.specs.Recovery.{zeroed, is_recovering, steps_done_of, first_rec
 use Rattle.model.specs.Refusals.{refusal_number}
 use Rattle.model.specs.Sticks.{Stick, stick, interface, units_of_interface, interface_up, repowered}
 use Rattle.model.specs.Units.{Standing, impersonal, locked, unlocked, recovering, UnitRecord, unit_record, new_unit, holds_phrase, is_locked, any_standing, any_locked, relocked, powered}
-use Rattle.model.specs.Wrappers.{cbw_in, csw}
+use Rattle.model.specs.Wrappers.{cbw_in}
 use Rattle.model.specs.declared.command.Cbw.{Cbw}
 use Rattle.model.specs.declared.command.Command.{Command}
 use Rattle.model.specs.declared.command.Command.TheVariants.{TestUnitReady, RequestSense, Inquiry, ReadCapacity, Read, Write, Rejected}

@@ -6,7 +6,7 @@ use Rattle.std.specs.declared.option.Option.TheVariants as option
 use Rattle.model.specs.Blocks.{Block}
 use Rattle.model.specs.Bulk.{with_sense}
 use Rattle.model.specs.Bytes.{byte, between}
-use Rattle.model.specs.Control.{alter, unit_at, interface_at, find_unit, sized, put_to_unit, request, asked, when_present}
+use Rattle.model.specs.Control.{alter, unit_at, interface_at, find_unit, sized, put_to_unit, asked, when_present}
 use Rattle.model.specs.Events.{Event, control, bulk, work, clock, reset, suspend, resume, power, step, after}
 use Rattle.model.specs.Identities.{is_negotiable}
 use Rattle.model.specs.Layouts.{Layout, sum}
@@ -15,7 +15,6 @@ use Rattle.model.specs.Recovery.{steps_done_of, first_recovering, advanced, work
 use Rattle.model.specs.Requests.{requested, shortest, longest}
 use Rattle.model.specs.Sticks.{Stick}
 use Rattle.model.specs.Units.{Standing, impersonal, locked, unlocked, recovering, UnitRecord, unit_record, new_unit, relocked, powered}
-use Rattle.model.specs.declared.ids.Phase.TheVariants as phase
 use Rattle.model.specs.declared.request.Asked.{Asked}
 use Rattle.model.specs.declared.request.Put.{Put}
 use Rattle.model.specs.declared.request.Put.TheVariants.{StorePassphrase, MatchPassphrase, ChangePassphrase, ErasePassphrase, EraseForgottenPassphrase, LockAgain, ChangeInterfaceAccess}

@@ -4,7 +4,7 @@ use lib.ListN.{get_or-map}
 use Rattle.std.proofs.lemmas.Bool.{true≢false, leb-true}
 use Rattle.std.specs.declared.option.Option.TheVariants as option
 use Rattle.model.specs.Blocks.{Block}
-use Rattle.model.specs.Bulk.{Completed, place_at, with_sense, ended, command, addressed, wrapped, commanded_when, bulked}
+use Rattle.model.specs.Bulk.{Completed, place_at, with_sense, ended, addressed, wrapped, commanded_when, bulked}
 use Rattle.model.specs.Commands.{good_run, stored, barrier, out_of_range, mismatched, Ending, ending, unless_failed, moving, performed}
 use Rattle.model.specs.Control.{Outcome, outcome, refuse, alter, unit_at, interface_at, find_unit, answered, tell_lock_data, with_interface, sized, put_to_unit, change_access, access_sized, put, request, when_present, served, controlled}
 use Rattle.model.specs.Descriptors.{device_descriptor, bundle}

@@ -4,7 +4,7 @@ use Rattle.std.proofs.lemmas.Bool.{cases_eq, cases_Bool, and_parts, ltb-true, eq
 use Rattle.std.proofs.lemmas.List.{get_or-set_same, get_or-set_other}
 use Rattle.std.specs.declared.option.Option.TheVariants as option
 use Rattle.model.specs.Blocks.{Block, bad, good, replaced, reaches, written}
-use Rattle.model.specs.Bulk.{Completed, place_at, ended, command, addressed, wrapped, commanded_when, commanded}
+use Rattle.model.specs.Bulk.{Completed, place_at, ended, addressed, wrapped, commanded_when, commanded}
 use Rattle.model.specs.Commands.{stored, barrier, Ending}
 use Rattle.model.specs.Control.{Outcome, unit_at, interface_at, find_unit, answered, tell_lock_data, sized, put_to_unit, change_access, request, asked}
 use Rattle.model.specs.Descriptors.{device_descriptor, bundle}
@@ -22,7 +22,6 @@ use Rattle.model.specs.declared.command.Cbw.{Cbw}
 use Rattle.model.specs.declared.ids.Ids.{Ids}
 use Rattle.model.specs.declared.ids.Phase.{Phase}
 use Rattle.model.specs.declared.ids.Phase.TheVariants as phase
-use Rattle.model.specs.declared.refusal.Refusal.TheVariants as refusal
 use Rattle.model.specs.declared.request.Asked.{Asked}
 use Rattle.model.specs.declared.request.Request.{Request}
 use Rattle.model.specs.declared.request.Request.TheVariants.{DeviceDescriptor, Bundle, LockData, HighestUnit, ClearJam, PutTo}

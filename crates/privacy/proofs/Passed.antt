@@ -5,7 +5,7 @@ use Rattle.std.specs.declared.option.Option.TheVariants as option
 use Rattle.model.specs.Blocks.{Block}
 use Rattle.model.specs.Bulk.{place_at}
 use Rattle.model.specs.Commands.{stored}
-use Rattle.model.specs.Control.{unit_at, interface_at, find_unit, sized, put_to_unit, request, asked, when_present}
+use Rattle.model.specs.Control.{unit_at, interface_at, find_unit, sized, put_to_unit, asked, when_present}
 use Rattle.model.specs.Events.{Event, control, bulk, work, clock, reset, suspend, resume, power, step, after}
 use Rattle.model.specs.Identities.{is_negotiable}
 use Rattle.model.specs.Layouts.{Layout, sum}
@@ -14,7 +14,6 @@ use Rattle.model.specs.Recovery.{zeroed, is_recovering, steps_done_of, first_rec
 use Rattle.model.specs.Requests.{requested}
 use Rattle.model.specs.Sticks.{Stick, stick, repowered}
 use Rattle.model.specs.Units.{Standing, impersonal, locked, unlocked, recovering, UnitRecord, new_unit, is_locked, relocked}
-use Rattle.model.specs.declared.ids.Phase.TheVariants as phase
 use Rattle.model.specs.declared.request.Asked.{Asked}
 use Rattle.model.specs.declared.request.Put.{Put}
 use Rattle.model.specs.declared.request.Request.{Request}

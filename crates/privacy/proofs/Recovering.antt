@@ -4,7 +4,7 @@ use Rattle.std.proofs.lemmas.Bool.{true≢false, false≢true, cases_eq, cases_l
 use Rattle.std.specs.declared.option.Option.TheVariants as option
 use Rattle.model.specs.Blocks.{Block, bad, good}
 use Rattle.model.specs.Bulk.{place_at}
-use Rattle.model.specs.Control.{Outcome, alter, unit_at, interface_at, find_unit, blocks_of, sized, put_to_unit, request, asked, when_present}
+use Rattle.model.specs.Control.{Outcome, alter, unit_at, interface_at, find_unit, blocks_of, sized, put_to_unit, asked, when_present}
 use Rattle.model.specs.Events.{Event, control, bulk, work, clock, reset, suspend, resume, power, step, after, run}
 use Rattle.model.specs.Identities.{is_negotiable}
 use Rattle.model.specs.Layouts.{Layout, sum}
@@ -13,7 +13,6 @@ use Rattle.model.specs.Recovery.{zeroed_block, zeroed, is_recovering, steps_done
 use Rattle.model.specs.Requests.{requested}
 use Rattle.model.specs.Sticks.{Stick, first}
 use Rattle.model.specs.Units.{Standing, impersonal, locked, unlocked, recovering, UnitRecord, unit_record, new_unit, is_locked, relocked}
-use Rattle.model.specs.declared.ids.Phase.TheVariants as phase
 use Rattle.model.specs.declared.request.Asked.{Asked}
 use Rattle.model.specs.declared.request.Put.{Put}
 use Rattle.model.specs.declared.request.Put.TheVariants.{StorePassphrase, MatchPassphrase, ChangePassphrase, ErasePassphrase, EraseForgottenPassphrase, LockAgain, ChangeInterfaceAccess}

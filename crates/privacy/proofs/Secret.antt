@@ -3,7 +3,7 @@ use Rattle.std.proofs.Common.{◌≡◌, ℕ, Bool, true, false, cond, ◌&&◌,
 use Rattle.std.proofs.lemmas.Bool.{true≢false, false≢true, cases_Bool, both_ways, and_parts, not-true}
 use Rattle.std.specs.declared.option.Option.TheVariants as option
 use Rattle.model.specs.Blocks.{Block}
-use Rattle.model.specs.Control.{Outcome, unit_at, interface_at, find_unit, sized, put_to_unit, request, asked, when_present}
+use Rattle.model.specs.Control.{Outcome, unit_at, interface_at, find_unit, sized, put_to_unit, asked, when_present}
 use Rattle.model.specs.Events.{Event, control, bulk, work, clock, reset, suspend, resume, power, step, after, replies}
 use Rattle.model.specs.Identities.{is_negotiable}
 use Rattle.model.specs.Layouts.{Layout}
@@ -12,7 +12,6 @@ use Rattle.model.specs.Recovery.{is_recovering, steps_done_of, first_recovering,
 use Rattle.model.specs.Requests.{requested}
 use Rattle.model.specs.Sticks.{Stick}
 use Rattle.model.specs.Units.{Standing, impersonal, locked, unlocked, recovering, UnitRecord, new_unit, is_locked, relocked}
-use Rattle.model.specs.declared.ids.Phase.TheVariants as phase
 use Rattle.model.specs.declared.request.Asked.{Asked}
 use Rattle.model.specs.declared.request.Put.{Put}
 use Rattle.model.specs.declared.request.Request.{Request}

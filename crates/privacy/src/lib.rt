@@ -1,5 +1,7 @@
 // What a stick keeps to itself, over every run: a locked unit's secret stays its own.
 // Each statement is the contract of a function that computes nothing, so that none stands unproved.
+#![tactic(auto)]
+
 ghost use Rattle.privacy.specs.Whole.{Private};
 ghost use Rattle.privacy.specs.Instances.{Instances};
 

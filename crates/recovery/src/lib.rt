@@ -1,5 +1,7 @@
 // The blocks that a work step of a recovery zeroes, through any medium's write.
 // A bad block is passed over; it counts among the blocks of its step.
+#![tactic(auto)]
+
 ghost use Rattle.std.specs.Prelude.{◌≡◌, ◌+◌, ◌-◌, ◌*◌, ◌^◌, ◌<◌, min, replicate};
 ghost use Rattle.model.specs.Blocks.{written};
 ghost use Rattle.model.specs.Recovery.{zeroed};

@@ -1,9 +1,9 @@
 -- A command on a unit of the stick, from what it did with the unit's place, sense and blocks.
-use Rattle.std.proofs.Common.{◌≡◌, ℕ, ◌-◌, Bool, true, false, cond, eqb, ltb, List, [], length, Option, sym, refl, ap, ◌∙◌}
-use Rattle.commands.specs.Endings.{Carried, carried_with, carried_out, done, turned}
+use Rattle.std.proofs.Common.{◌≡◌, ℕ, ◌-◌, Bool, true, false, cond, eqb, ltb, List, [], length, Option, refl, ap}
+use Rattle.commands.specs.Endings.{Carried, carried_out, done, turned}
 use Rattle.commands.specs.declared.ended.Target.{Target}
 use Rattle.model.specs.Blocks.{Block}
-use Rattle.model.specs.Bulk.{Bulked, bulk_with, Completed, command, place_at, turned_down, with_sense}
+use Rattle.model.specs.Bulk.{Bulked, bulk_with, command, place_at, turned_down, with_sense}
 use Rattle.model.specs.Commands.{Ending, barrier, performed}
 use Rattle.model.specs.Control.{alter, unit_at}
 use Rattle.model.specs.Layouts.{Layout}

@@ -1,12 +1,11 @@
 -- The first recovering unit of a stick.
-use Rattle.std.proofs.Common.{◌≡◌, ℕ, ◌-◌, ◌<◌, ◌≤◌, cond, ltb, List, map, length, take, sym, refl, ap, ◌∙◌, arith}
+use Rattle.std.proofs.Common.{◌≡◌, ℕ, ◌-◌, ◌<◌, cond, ltb, List, map, length, take, sym, ap, ◌∙◌, arith}
 use Rattle.std.proofs.lemmas.List.{take-map, length-map, length-take}
 use Rattle.std.proofs.lemmas.Bool.{cond-true, cond-false, lt-ltb, le-ltb}
 use Rattle.model.specs.Control.{unit_at}
 use Rattle.model.specs.Layouts.{Layout}
 use Rattle.model.specs.Recovery.{first_recovering, steps_done_of, work_on, worked}
 use Rattle.model.specs.Sticks.{Stick}
-use Rattle.model.specs.Units.{UnitRecord}
 use Rattle.units.specs.Records.{record_of}
 use Rattle.units.specs.declared.row.Row.{Row}
 

@@ -1,15 +1,12 @@
 -- What a stick means, without power and running, by what its medium means.
 use Rattle.std.specs.Prelude.{List, take}
 use Rattle.model.specs.Blocks.{Block}
-use Rattle.model.specs.Layouts.{Layout}
 use Rattle.model.specs.Units.{UnitRecord}
 use Rattle.model.specs.Sticks.{Stick, stick}
-use Rattle.layout.specs.Tables.{layout_of}
 use Rattle.layout.specs.declared.table.Layout as table
 use Rattle.units.specs.Tables.{records_of}
 use Rattle.units.specs.declared.rows.Rows.{Rows}
 use Rattle.interfaces.specs.Tables.{interfaces_of}
-use Rattle.stick.specs.declared.stick.Unpowered.{Unpowered}
 use Rattle.stick.specs.declared.stick.Running.{Running}
 use Rattle.medium.specs.declared.Medium.{Ghosts}
 

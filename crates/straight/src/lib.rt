@@ -1,5 +1,7 @@
 // The straight medium: block b lies at byte 512 × b of its memory, and stays there.
 // Fitted against the rules it has no blocks, and its memory is left as it was.
+#![tactic(auto)]
+
 mod calls;
 mod fitting;
 

@@ -1,5 +1,7 @@
 // The turning medium: a written block moves to the spare page, and the page that it gives up is the new spare.
 // It has one page more than blocks and starts with block b on page b; bad marks belong to blocks, so a bad block never moves.
+#![tactic(auto)]
+
 mod calls;
 mod fitting;
 mod pages;

@@ -1,7 +1,7 @@
-use Rattle.std.proofs.Common.{◌≡◌, ℕ, ◌+◌, true, false, ◌&&◌, drop, Decides, sym, ap, ◌∙◌, subst}
+use Rattle.std.proofs.Common.{◌≡◌, ◌+◌, true, false, ◌&&◌, drop, sym, ap, ◌∙◌}
 use Rattle.std.proofs.lemmas.List.{at_drop_all}
 use Rattle.std.proofs.lemmas.Bool.Decides.{Decides-at}
-use Rattle.model.specs.Extents.{sound, Sound}
+use Rattle.model.specs.Extents.{sound}
 use Rattle.extents.proofs.Along.{sound_step, sound_decides}
 use Rattle.extents.proofs.is_sound.Goals as goal
 

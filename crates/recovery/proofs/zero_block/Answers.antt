@@ -1,4 +1,4 @@
-use Rattle.std.proofs.Common.{◌≡◌, ◌+◌, replicate, sym, ap, ◌∙◌}
+use Rattle.std.proofs.Common.{◌≡◌, ◌+◌, replicate, ap, ◌∙◌}
 use Rattle.model.specs.Blocks.{written}
 use Rattle.recovery.proofs.zero_block.Goals as goal
 

@@ -1,4 +1,4 @@
-use Rattle.std.proofs.Common.{◌≡◌, ◌+◌, ◌-◌, ◌*◌, ◌≤◌, min, sym, ap, ◌∙◌, arith}
+use Rattle.std.proofs.Common.{◌≡◌, ◌+◌, ◌-◌, ◌*◌, min, sym, ap, ◌∙◌, arith}
 use Rattle.model.specs.Recovery.{zeroed}
 use Rattle.recovery.proofs.Zeroing.{zeroed_none}
 use Rattle.recovery.proofs.zero_step.Goals as goal

@@ -1,4 +1,4 @@
-use Rattle.std.proofs.Common.{◌≡◌, arith, rules}
+use Rattle.std.proofs.Common.{rules}
 use Rattle.answers.proofs.Fronts.{front_answer, front_whole}
 use Rattle.answers.proofs.answering.answer_from.Goals as goal
 

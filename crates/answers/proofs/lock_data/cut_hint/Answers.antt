@@ -1,4 +1,4 @@
-use Rattle.std.proofs.Common.{◌≡◌, arith, rules}
+use Rattle.std.proofs.Common.{rules}
 use Rattle.std.proofs.lemmas.List.{places}
 use Rattle.answers.proofs.Fronts.{cut_front}
 use Rattle.answers.proofs.lock_data.cut_hint.Goals as goal

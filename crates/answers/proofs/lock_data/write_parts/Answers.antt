@@ -1,4 +1,4 @@
-use Rattle.std.proofs.Common.{◌≡◌, refl, arith, rules}
+use Rattle.std.proofs.Common.{refl, arith}
 use Rattle.answers.proofs.Fronts.{three_parts}
 use Rattle.answers.proofs.lock_data.write_parts.Goals as goal
 

@@ -1,7 +1,7 @@
-use Rattle.std.proofs.Common.{◌≡◌, ℕ, ◌+◌, ◌-◌, ◌*◌, ◌<◌, ◌≤◌, List, length, get_or, take, drop, sym, ap, ◌∙◌, subst, arith, rules}
+use Rattle.std.proofs.Common.{◌≡◌, ℕ, ◌+◌, ◌-◌, ◌*◌, length, get_or, take, drop, sym, ap, ◌∙◌, subst, arith, rules}
 use borrow.Rule.Slice.PartMut.{put_mid}
 use Rattle.std.proofs.lemmas.List.{length-take, length-drop}
-use Rattle.model.specs.Blocks.{bad, good}
+use Rattle.model.specs.Blocks.{bad}
 use Rattle.medium.proofs.Calls.{refused_read}
 use Rattle.commands.proofs.Loading.{Along, along_more, along_bad, along_all, good_seen, bad_seen, putMid_back}
 use Rattle.commands.proofs.blocks.read_blocks.Goals as goal

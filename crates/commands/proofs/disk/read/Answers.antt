@@ -1,4 +1,4 @@
-use Rattle.std.proofs.Common.{◌≡◌, ◌+◌, refl, ◌∙◌, rules}
+use Rattle.std.proofs.Common.{◌+◌, refl, ◌∙◌, rules}
 use Rattle.commands.proofs.Counted.{loaded_front, read_whole, read_stopped}
 use Rattle.commands.proofs.disk.read.Goals as goal
 

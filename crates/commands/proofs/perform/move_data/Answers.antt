@@ -1,4 +1,4 @@
-use Rattle.std.proofs.Common.{◌≡◌, take, sym, refl, ap, ◌∙◌}
+use Rattle.std.proofs.Common.{take, sym, ap, ◌∙◌}
 use Rattle.model.specs.Commands.{Ending, moving, told}
 use Rattle.model.specs.declared.command.Command.{Command}
 use Rattle.commands.specs.Endings.{front}

@@ -1,4 +1,4 @@
-use Rattle.std.proofs.Common.{◌≡◌, ◌≤◌, refl, arith, rules}
+use Rattle.std.proofs.Common.{arith}
 use Rattle.interfaces.proofs.Bits.{summed_more, summed_all, small_weight}
 use Rattle.interfaces.proofs.descriptor.product_bits.Goals as goal
 

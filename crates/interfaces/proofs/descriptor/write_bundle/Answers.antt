@@ -1,4 +1,4 @@
-use Rattle.std.proofs.Common.{◌≡◌, ◌+◌, ◌*◌, ◌≤◌, length, drop, refl, ◌∙◌, arith, rules}
+use Rattle.std.proofs.Common.{◌+◌, ◌*◌, length, refl, ◌∙◌, arith}
 use Rattle.model.specs.Descriptors.{configuration}
 use Rattle.interfaces.proofs.Pieces.{bundle_front}
 use Rattle.interfaces.proofs.descriptor.write_bundle.Goals as goal

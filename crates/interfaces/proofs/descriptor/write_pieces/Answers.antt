@@ -1,5 +1,5 @@
-use Rattle.std.proofs.Common.{◌≡◌, ◌≤◌, length, sym, arith, rules}
-use Rattle.interfaces.proofs.Pieces.{written_none, written_more, written_all}
+use Rattle.std.proofs.Common.{◌≡◌, length, arith}
+use Rattle.interfaces.proofs.Pieces.{written_more, written_all}
 use Rattle.interfaces.proofs.descriptor.write_pieces.Goals as goal
 
 pub loop-i-preserved : goal.loop-i-preserved

@@ -1,4 +1,3 @@
-use Rattle.std.proofs.Common.{◌≡◌, length}
 use Rattle.interfaces.proofs.Pieces.{Written}
 use Rattle.interfaces.proofs.descriptor.write_pieces.Given as goal
 

@@ -1,8 +1,7 @@
-use Rattle.std.proofs.Common.{◌≡◌, ℕ, ◌<◌, ◌≤◌, List, ◌++◌, map, length, get_or, take, drop, sym, refl, ap, ◌∙◌, subst, arith, rules}
+use Rattle.std.proofs.Common.{ℕ, ◌<◌, ◌≤◌, ◌++◌, map, length, drop, ap, ◌∙◌, subst, rules}
 use Rattle.std.proofs.lemmas.List.Edits.{map_over_more}
 use Rattle.std.proofs.lemmas.List.{length-set, take_all, drop_all, append-nil, get_or_default}
 use Rattle.model.specs.Control.{unjammed}
-use Rattle.model.specs.declared.ids.Interface.{Interface}
 use Rattle.interfaces.proofs.presence.unjam_list.Goals as goal
 
 pub loop-interface-preserved : goal.loop-interface-preserved

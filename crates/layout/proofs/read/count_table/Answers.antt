@@ -1,4 +1,4 @@
-use Rattle.std.proofs.Common.{◌≡◌, ℕ, ◌-◌, length, take, drop, replicate, ap, ◌∙◌, arith, drop_at}
+use Rattle.std.proofs.Common.{◌≡◌, ℕ, ◌-◌, length, drop, replicate, ap, ◌∙◌, arith, drop_at}
 use Rattle.std.proofs.lemmas.List.{take_at}
 use Rattle.layout.proofs.read.count_table.Goals as goal
 

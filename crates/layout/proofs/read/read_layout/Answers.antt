@@ -1,10 +1,10 @@
-use Rattle.std.proofs.Common.{◌≡◌, ℕ, ◌+◌, ◌-◌, ◌*◌, ◌%◌, true, false, eqb, length, take, drop, replicate, Some, sym, refl, ap, ◌∙◌, arith, rules}
+use Rattle.std.proofs.Common.{◌≡◌, ◌+◌, ◌*◌, ◌%◌, true, eqb, length, take, drop, replicate, Some, sym, ap, ◌∙◌, arith, rules}
 use Rattle.std.proofs.lemmas.Bool.{ne_eqb, eq-eqb}
 use Rattle.std.proofs.lemmas.Bool.Decides.{nat_tests}
 use Rattle.std.proofs.lemmas.List.{drop-drop, take_rest}
 use Rattle.model.specs.Bytes.{le16, byte, between}
 use Rattle.model.specs.Extents.{sound}
-use Rattle.model.specs.Layouts.{sum, all_between, pairs, place_start, place_count, said_layout}
+use Rattle.model.specs.Layouts.{sum, all_between, pairs, place_start, place_count}
 use Rattle.layout.proofs.Rules.{counts_in, pairs_in, none_counted, some_counted, bad_counts, bad_base, bad_length, bad_places, all_rules, same_layout, front_within}
 use Rattle.layout.proofs.read.read_layout.Goals as goal
 use Rattle.layout.proofs.read.read_layout.Goals.{then-product_base-ne0-via-then-product_base-ne0, then-product_base-ne0-via-else-product_base-ne0+then-pairs-unit_count}

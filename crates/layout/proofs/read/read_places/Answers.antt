@@ -1,8 +1,6 @@
-use Rattle.std.proofs.Common.{◌≡◌, ℕ, ◌<◌, ◌≤◌, length, drop, sym, ap, ◌∙◌, ⊎_elim, arith, drop-set-lt}
-use Rattle.std.proofs.lemmas.List.{length-set, get_or-set_same, get_or-set_other}
-use Rattle.std.proofs.lemmas.Bool.{cases_eq}
-use Rattle.model.specs.declared.layout.Place.{Place}
-use Rattle.layout.proofs.Pairs.{pair_at, pairs_all, pairs_more}
+use Rattle.std.proofs.Common.{◌<◌, ◌≤◌, length, ◌∙◌, arith, drop-set-lt}
+use Rattle.std.proofs.lemmas.List.{length-set}
+use Rattle.layout.proofs.Pairs.{pairs_all, pairs_more}
 use Rattle.layout.proofs.read.read_places.Goals as goal
 
 pub loop-i-preserved : goal.loop-i-preserved

@@ -1,4 +1,3 @@
-use Rattle.std.proofs.Common.{rules}
 use Rattle.model.specs.Blocks.{run_start, run_count}
 use Rattle.medium.proofs.Searches.{found_some}
 use Rattle.medium.proofs.bad_runs.is_bad.Goals as goal

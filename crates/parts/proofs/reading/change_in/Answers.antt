@@ -1,4 +1,4 @@
-use Rattle.std.proofs.Common.{◌≡◌, ◌∙◌}
+use Rattle.std.proofs.Common.{◌∙◌}
 use Rattle.parts.proofs.Filled.{change_filled}
 use Rattle.parts.proofs.reading.change_in.Goals as goal
 

@@ -1,4 +1,4 @@
-use Rattle.std.proofs.Common.{◌≡◌, ℕ, ◌-◌, ◌≤◌, true, false, length, take, refl, subst, arith, rules}
+use Rattle.std.proofs.Common.{◌≡◌, ℕ, ◌-◌, ◌≤◌, true, false, length, take, refl, subst, arith}
 use Rattle.std.specs.List.{AllByRecursion as All}
 use Rattle.model.specs.Extents.{Fitting}
 use Rattle.model.specs.Parts.{part_start, part_length, parts_end}

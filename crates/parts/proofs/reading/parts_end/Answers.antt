@@ -1,4 +1,4 @@
-use Rattle.std.proofs.Common.{◌≡◌, sym, ap, arith, rules}
+use Rattle.std.proofs.Common.{sym, ap, arith, rules}
 use Rattle.std.proofs.lemmas.List.{nil_from_length}
 use Rattle.model.specs.Parts.{part, parts_end}
 use Rattle.parts.proofs.Ends.{last_end}

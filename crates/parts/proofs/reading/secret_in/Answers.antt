@@ -1,4 +1,4 @@
-use Rattle.std.proofs.Common.{◌≡◌, ◌∙◌}
+use Rattle.std.proofs.Common.{◌∙◌}
 use Rattle.parts.proofs.Filled.{secret_filled}
 use Rattle.parts.proofs.reading.secret_in.Goals as goal
 

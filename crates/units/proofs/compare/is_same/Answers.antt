@@ -1,4 +1,4 @@
-use Rattle.std.proofs.Common.{◌≡◌, ℕ, ◌≤◌, length, ◌∙◌, subst, arith, rules}
+use Rattle.std.proofs.Common.{◌≡◌, ℕ, length, subst, arith}
 use Rattle.units.proofs.Compared.{Compared, compared_none, compared_more, compared_all, too_long}
 use Rattle.units.proofs.compare.is_same.Goals as goal
 

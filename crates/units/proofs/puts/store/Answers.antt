@@ -1,4 +1,4 @@
-use Rattle.std.proofs.Common.{◌≡◌, ◌-◌, length, drop, refl, ap, ◌∙◌, arith, rules}
+use Rattle.std.proofs.Common.{◌≡◌, ◌-◌, length, drop, refl, ap, arith, rules}
 use Rattle.units.proofs.Stored.{stored_front, stored_tidy}
 use Rattle.units.proofs.puts.store.Goals as goal
 

@@ -1,4 +1,4 @@
-use Rattle.std.proofs.Common.{◌≡◌, true, false, map, drop, arith}
+use Rattle.std.proofs.Common.{true, false, map, arith}
 use Rattle.std.proofs.lemmas.List.{at_drop_all}
 use Rattle.model.specs.Recovery.{first_recovering}
 use Rattle.units.specs.Records.{record_of}

@@ -1,4 +1,4 @@
-use Rattle.std.proofs.Common.{◌≡◌, true, false, map, sym, ◌∙◌}
+use Rattle.std.proofs.Common.{true, false, map, sym, ◌∙◌}
 use Rattle.std.proofs.lemmas.List.{at_drop_all}
 use Rattle.model.specs.Units.{any_standing}
 use Rattle.units.specs.Records.{quality_test, record_of}

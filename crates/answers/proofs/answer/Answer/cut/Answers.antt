@@ -1,4 +1,4 @@
-use Rattle.std.proofs.Common.{◌≡◌, rules}
+use Rattle.std.proofs.Common.{rules}
 use Rattle.answers.proofs.Fronts.{cut_again}
 use Rattle.answers.proofs.answer.Answer.cut.Goals as goal
 

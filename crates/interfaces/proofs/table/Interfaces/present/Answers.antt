@@ -1,4 +1,4 @@
-use Rattle.std.proofs.Common.{◌≡◌, ◌≤◌, false, length, take, sym, refl, arith}
+use Rattle.std.proofs.Common.{◌≤◌, false, length, take, sym, refl, arith}
 use Rattle.std.proofs.lemmas.List.{length-take}
 use Rattle.model.specs.Sticks.{interface}
 use Rattle.interfaces.proofs.Tables.{set_altered, past_altered}

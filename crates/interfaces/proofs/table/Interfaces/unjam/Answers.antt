@@ -1,4 +1,4 @@
-use Rattle.std.proofs.Common.{◌≡◌, take, refl, ap, ◌∙◌}
+use Rattle.std.proofs.Common.{take, refl, ap, ◌∙◌}
 use Rattle.std.proofs.lemmas.List.{take-map}
 use Rattle.model.specs.Control.{unjammed}
 use Rattle.interfaces.proofs.table.Interfaces.unjam.Goals as goal

@@ -1,6 +1,5 @@
-use Rattle.std.proofs.Common.{◌≡◌, ℕ, ◌+◌, ◌<◌, get_or, take, Some, sym, refl, ap, ◌∙◌, subst, inl, inr, arith, rules}
+use Rattle.std.proofs.Common.{ℕ, ◌+◌, ◌<◌, Some, sym, refl, ap, ◌∙◌, subst, inl, inr, arith}
 use Rattle.layout.specs.Tables.{layout_of}
-use Rattle.model.specs.Layouts.{sum}
 use Rattle.layout.proofs.Numbers.{unit_absent, unit_found, unit_within}
 use Rattle.layout.proofs.table.Layout.find_unit.Goals as goal
 

@@ -1,4 +1,4 @@
-use Rattle.std.proofs.Common.{◌≡◌, ◌+◌, ◌<◌, get_or, sym, ap, ◌∙◌, arith, rules}
+use Rattle.std.proofs.Common.{◌+◌, ◌<◌, get_or, sym, ap, ◌∙◌, arith, rules}
 use Rattle.layout.proofs.Sums.{sum_next}
 use Rattle.layout.proofs.table.Layout.first_unit.Goals as goal
 

@@ -1,4 +1,4 @@
-use Rattle.std.proofs.Common.{◌≡◌, ◌+◌, ◌≤◌, get_or, refl, arith}
+use Rattle.std.proofs.Common.{refl, arith}
 use Rattle.layout.specs.Tables.{layout_of}
 use Rattle.layout.proofs.Numbers.{no_range, has_range}
 use Rattle.layout.proofs.Sums.{sum_within}

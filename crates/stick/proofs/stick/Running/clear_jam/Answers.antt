@@ -1,4 +1,4 @@
-use Rattle.std.proofs.Common.{◌≡◌, ℕ, ◌&&◌, eqb, List, [], get_or, sym, refl, ap, ◌∙◌, arith, rules}
+use Rattle.std.proofs.Common.{◌≡◌, ◌&&◌, eqb, List, [], sym, refl, ap, ◌∙◌, rules}
 use Rattle.layout.specs.Tables.{layout_of}
 use Rattle.model.specs.Control.{outcome, refuse, clear_jam, unjammed, alter, with_interfaces}
 use Rattle.model.specs.Sticks.{stick}

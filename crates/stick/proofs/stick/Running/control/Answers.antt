@@ -1,5 +1,4 @@
-use Rattle.std.proofs.Common.{◌≡◌, ◌-◌, true, length, drop, sym, refl, ap, ◌∙◌, arith, rules}
-use Rattle.answers.specs.Answers.{answer_of}
+use Rattle.std.proofs.Common.{◌≡◌, ◌-◌, true, length, drop, sym, ap, ◌∙◌, arith, rules}
 use Rattle.layout.specs.Tables.{layout_of}
 use Rattle.model.specs.Control.{outcome, served}
 use Rattle.model.specs.Requests.{is_reading}

@@ -1,6 +1,6 @@
-use Rattle.std.proofs.Common.{◌≡◌, ℕ, ◌+◌, ◌-◌, ◌<◌, map, get_or, take, drop, Some, None, Option, sym, refl, ap, ◌∙◌, arith, rules}
+use Rattle.std.proofs.Common.{◌≡◌, ℕ, ◌+◌, ◌-◌, get_or, take, drop, Some, None, Option, sym, refl, ap, ◌∙◌, arith}
 use Rattle.layout.proofs.Numbers.{has_range}
-use Rattle.layout.specs.Tables.{layout_of, range, range_of}
+use Rattle.layout.specs.Tables.{layout_of, range}
 use Rattle.model.specs.Layouts.{sum}
 use Rattle.model.specs.Units.{any_locked}
 use Rattle.std.proofs.lemmas.List.{take-map, drop-map}

@@ -1,4 +1,4 @@
-use Rattle.std.proofs.Common.{◌≡◌, ◌<◌, false, length, get_or, sym, ap, ◌∙◌, arith}
+use Rattle.std.proofs.Common.{◌<◌, false, length, sym, ap, ◌∙◌, arith}
 use Rattle.model.specs.Sticks.{interface}
 use Rattle.model.specs.declared.ids.Ids.TheVariants.{ScsiBbb}
 use Rattle.model.specs.declared.ids.Interface.{Interface}

@@ -1,4 +1,4 @@
-use Rattle.std.proofs.Common.{◌≡◌, List, refl, ap}
+use Rattle.std.proofs.Common.{List, refl, ap}
 use Rattle.model.specs.Bulk.{jammed, turned_down}
 use Rattle.model.specs.Sticks.{stick}
 use Rattle.model.specs.declared.ids.Interface.{Interface}

@@ -1,9 +1,9 @@
-use Rattle.std.proofs.Common.{◌≡◌, ℕ, ◌<◌, ◌≤◌, Bool, false, cond, ltb, [], length, get_or, take, Ok, Err, Option, Result, sym, refl, ap, ◌∙◌, arith, rules}
+use Rattle.std.proofs.Common.{◌≡◌, ℕ, ◌<◌, Bool, false, ltb, [], length, get_or, take, Ok, Err, Option, Result, sym, refl, ap, ◌∙◌, arith}
 use Rattle.parts.specs.Carries.{put_of}
 use Rattle.layout.specs.Tables.{layout_of}
-use Rattle.model.specs.Control.{Outcome, outcome, refuse, put_to_unit, interface_at, sized, unit_at, alter, with_units}
+use Rattle.model.specs.Control.{outcome, put_to_unit, interface_at, sized, unit_at, alter, with_units}
 use Rattle.model.specs.Identities.{is_negotiable}
-use Rattle.model.specs.Puts.{UnitPut, Turn, turned}
+use Rattle.model.specs.Puts.{UnitPut, turned}
 use Rattle.model.specs.Sticks.{Stick, interface}
 use Rattle.model.specs.Units.{UnitRecord, new_unit}
 use Rattle.model.specs.declared.ids.Interface.{Interface}

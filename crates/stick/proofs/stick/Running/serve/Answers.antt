@@ -1,4 +1,4 @@
-use Rattle.std.proofs.Common.{◌≡◌, length, sym, refl, ap, ◌∙◌}
+use Rattle.std.proofs.Common.{length, sym, refl, ap, ◌∙◌}
 use Rattle.layout.specs.Tables.{layout_of}
 use Rattle.model.specs.Control.{answered, request}
 use Rattle.model.specs.declared.request.Request.{Request}

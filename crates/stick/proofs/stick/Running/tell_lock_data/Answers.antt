@@ -1,4 +1,4 @@
-use Rattle.std.proofs.Common.{◌≡◌, ℕ, ◌<◌, get_or, take, Option, sym, refl, ap, ◌∙◌, arith, rules}
+use Rattle.std.proofs.Common.{◌≡◌, ℕ, ◌<◌, get_or, Option, sym, ap, ◌∙◌, rules}
 use Rattle.layout.specs.Tables.{layout_of}
 use Rattle.model.specs.Control.{answered, blocks_of, tell_lock_data, unit_at}
 use Rattle.model.specs.Layouts.{place, place_count}

@@ -1,7 +1,7 @@
-use Rattle.std.proofs.Common.{◌≡◌, refl, ◌∙◌, rules}
+use Rattle.std.proofs.Common.{refl, ◌∙◌}
 use Rattle.layout.specs.Tables.{layout_of}
 use Rattle.stick.specs.Meaning.{stick_of}
-use Rattle.stick.proofs.Working.{works_on, rests, below}
+use Rattle.stick.proofs.Working.{works_on, rests}
 use Rattle.stick.proofs.stick.Running.work.Goals as goal
 
 pub returns-in-Some : goal.returns-in-Some

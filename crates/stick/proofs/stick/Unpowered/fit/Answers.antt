@@ -1,6 +1,6 @@
-use Rattle.std.proofs.Common.{◌≡◌, length, take, replicate, refl, ap, ◌∙◌, rules}
+use Rattle.std.proofs.Common.{◌≡◌, length, take, replicate, refl, ap, ◌∙◌}
 use Rattle.std.proofs.lemmas.List.{take-replicate}
-use Rattle.model.specs.Layouts.{Layout, fitted_layout, sum}
+use Rattle.model.specs.Layouts.{fitted_layout}
 use Rattle.model.specs.Sticks.{fitted_units}
 use Rattle.model.specs.Units.{new_unit}
 use Rattle.layout.specs.Tables.{layout_of}

@@ -1,4 +1,4 @@
-use Rattle.std.proofs.Common.{◌≡◌, map, take, refl, ap, ◌∙◌}
+use Rattle.std.proofs.Common.{map, take, refl, ap, ◌∙◌}
 use Rattle.std.proofs.lemmas.List.{take-map}
 use Rattle.interfaces.specs.Tables.{interfaces_of}
 use Rattle.model.specs.Sticks.{stick}

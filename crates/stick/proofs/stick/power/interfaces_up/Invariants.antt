@@ -1,4 +1,4 @@
-use Rattle.std.proofs.Common.{map, refl}
+use Rattle.std.proofs.Common.{refl}
 use Rattle.layout.specs.Tables.{layout_of}
 use Rattle.units.specs.Tables.{records_of}
 use Rattle.stick.proofs.Ups.{Upped}

@@ -1,5 +1,4 @@
-use Rattle.std.proofs.Common.{◌≡◌, length, ap, ◌∙◌}
-use Rattle.layout.specs.Tables.{layout_of}
+use Rattle.std.proofs.Common.{length, ap, ◌∙◌}
 use Rattle.model.proofs.Powering.{first_power_up}
 use Rattle.model.specs.Layouts.{fitted_layout}
 use Rattle.model.specs.Sticks.{powered_up, fitted_units}

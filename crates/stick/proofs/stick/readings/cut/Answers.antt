@@ -1,4 +1,4 @@
-use Rattle.std.proofs.Common.{◌≡◌, min, length, arith, rules}
+use Rattle.std.proofs.Common.{◌≡◌, min, length, arith}
 use Rattle.answers.specs.Answers.{answer_of}
 use Rattle.stick.proofs.Fronts.{cut_short, cut_whole, cut_room}
 use Rattle.stick.proofs.stick.readings.cut.Goals as goal

@@ -2,7 +2,7 @@ use Rattle.std.proofs.Common.{◌≡◌, ℕ, ◌-◌, ◌≤◌, List, take, ap
 use Rattle.answers.specs.Standings.{standing_by}
 use Rattle.model.specs.LockData.{lock_data}
 use Rattle.model.specs.Units.{unit_record}
-use Rattle.std.proofs.lemmas.List.{take-take, take_all, length-take}
+use Rattle.std.proofs.lemmas.List.{take_all, length-take}
 use Rattle.units.proofs.row.Row.lock_data.Goals as goal
 
 -- a hint of at most 100 bytes is not cut

@@ -1,4 +1,4 @@
-use Rattle.std.proofs.Common.{◌≡◌, ℕ, ◌+◌, ◌*◌, ◌<◌, ◌≤◌, leb, length, sym, ap, ◌∙◌, arith}
+use Rattle.std.proofs.Common.{ℕ, ◌+◌, ◌*◌, ◌<◌, ◌≤◌, leb, length, sym, ◌∙◌, arith}
 use Rattle.model.specs.Recovery.{steps_done_of, advanced}
 use Rattle.model.specs.Units.{UnitRecord, new_unit}
 use Rattle.std.proofs.lemmas.List.{length-map, length-set}

@@ -1,4 +1,4 @@
-use Rattle.std.proofs.Common.{◌≡◌, ◌<◌, ◌≤◌, length, sym, ap, ◌∙◌, arith}
+use Rattle.std.proofs.Common.{◌<◌, ◌≤◌, length, sym, ap, ◌∙◌, arith}
 use Rattle.model.specs.Commands.{barrier as closed_by}
 use Rattle.model.specs.Units.{UnitRecord, new_unit}
 use Rattle.std.proofs.lemmas.List.{length-map, get_or-map, get_or_past}

@@ -1,4 +1,4 @@
-use Rattle.std.proofs.Common.{◌≡◌, ◌<◌, ◌≤◌, length, sym, ap, ◌∙◌, arith}
+use Rattle.std.proofs.Common.{◌<◌, ◌≤◌, length, sym, ap, ◌∙◌, arith}
 use Rattle.model.specs.LockData.{lock_data}
 use Rattle.model.specs.Units.{new_unit}
 use Rattle.std.proofs.lemmas.List.{length-map, get_or-map, get_or_past}

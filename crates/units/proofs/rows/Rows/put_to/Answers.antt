@@ -1,4 +1,4 @@
-use Rattle.std.proofs.Common.{◌≡◌, ◌<◌, ◌≤◌, ltb, map, length, get_or, sym, refl, ap, ◌∙◌, arith, rules}
+use Rattle.std.proofs.Common.{◌<◌, ◌≤◌, ltb, length, sym, ap, ◌∙◌, arith}
 use Rattle.parts.specs.Carries.{put_of}
 use Rattle.model.specs.Puts.{Turn, turned}
 use Rattle.model.specs.Units.{UnitRecord, new_unit}

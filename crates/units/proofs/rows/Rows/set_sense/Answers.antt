@@ -1,4 +1,4 @@
-use Rattle.std.proofs.Common.{◌≡◌, ◌<◌, ◌≤◌, length, sym, ap, ◌∙◌, arith}
+use Rattle.std.proofs.Common.{◌<◌, ◌≤◌, length, sym, ◌∙◌, arith}
 use Rattle.model.specs.Bulk.{with_sense}
 use Rattle.model.specs.Units.{new_unit}
 use Rattle.std.proofs.lemmas.List.{length-map, length-set}
