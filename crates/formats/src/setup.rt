@@ -137,10 +137,9 @@ pub fn is_length_allowed(request: Request, length: u16) -> bool
     }
 }
 
-// The judgement of a setup by its bytes alone, for the controller's C program: 0, or the refusal 7 (not 8 bytes, or
+// The judgement of a setup by its bytes alone: 0, or the refusal 7 (not 8 bytes, or
 // unlisted) or 9 (a wLength that is not allowed).
-#[unsafe(no_mangle)]
-pub extern "C" fn judge_setup(setup: &[u8]) -> u8
+pub fn judge_setup(setup: &[u8]) -> u8
     ensures { result ≡ judged_setup setup.now }
 {
     match read_setup(setup) {

@@ -147,10 +147,9 @@ pub fn read_cbw(cbw: &[u8]) -> Option<Cbw>
     })
 }
 
-// The judgement of a CBW by its bytes and the highest unit of its interface, for the controller's C program: 0, or the
+// The judgement of a CBW by its bytes and the highest unit of its interface: 0, or the
 // refusal 16 (not in order, or no such unit).
-#[unsafe(no_mangle)]
-pub extern "C" fn judge_cbw(cbw: &[u8], highest: u8) -> u8
+pub fn judge_cbw(cbw: &[u8], highest: u8) -> u8
     ensures { result ≡ judged_cbw cbw.now highest }
 {
     match read_cbw(cbw) {
