@@ -4,8 +4,8 @@ use Rattle.record.proofs.line.push_hex.Goals as goal
 
 pub loop-byte-preserved : goal.loop-byte-preserved
 loop-byte-preserved c =
-    text_more (vec_items c.loop-byte.line) (vec_items c.extend-from-slice.new.self) c.pair-of.result c.args.bytes.now
-    c.loop-byte.byte-index c.loop-byte-test.true c.pair-of.ensures (search rules)
+    text_more (vec_items c.loop-byte.line) (vec_items c.extend_from_slice.new.self) c.pair_of.result c.args.bytes.now
+    c.loop-byte.byte-index c.loop-byte-test.true c.pair_of.ensures (search rules)
     ∙ c.loop-byte.invariant
 
 pub returns : goal.returns

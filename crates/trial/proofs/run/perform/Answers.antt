@@ -16,16 +16,16 @@ returns-in-Control g c =
     let lay = layout_of c.args.stick.layout in
     let s = of c.control-result.new.self in
     let buf = c.control-result.new.buffer in
-    let setup = c.as-slice.result.now in
-    let handed = c.as-mut-slice.result.now in
+    let setup = c.as_slice.result.now in
+    let handed = c.as_mut_slice.result.now in
     let setup_is : setup ≡ vec_items c.in-Control.setup = search rules in
     let handed_is : handed ≡ vec_items c.in-Control.data = search rules in
     let e = with_items_is c.in-Control.data buf (search rules) in
     record {
-      bound = subst (λ (b : List ℕ). count_of c.control-reply.result ≤ length b) (sym e) (c.control-reply.ensures.bound (length buf) c.control-result.ensures.bound);
+      bound = subst (λ (b : List ℕ). count_of c.control_reply.result ≤ length b) (sym e) (c.control_reply.ensures.bound (length buf) c.control-result.ensures.bound);
       kept = ap (λ (x : Event). unhanded (event_of x)) (sym c.in-Control.is);
-      step = ap (λ b. stepped (reply_of c.control-reply.result b) s) e
-          ∙ c.control-reply.ensures.step buf s
+      step = ap (λ b. stepped (reply_of c.control_reply.result b) s) e
+          ∙ c.control_reply.ensures.step buf s
           ∙ ap (λ (t : Transferred). after_control t) c.control-result.ensures.transfer
           ∙ ap (λ x. after_control (controlled lay x handed (of c.args.stick))) setup_is
           ∙ ap (λ x. after_control (controlled lay (vec_items c.in-Control.setup) x (of c.args.stick))) handed_is
@@ -40,16 +40,16 @@ returns-in-Bulk g c =
     let s = of c.bulk-result.new.self in
     let i = c.in-Bulk.interface in
     let buf = c.bulk-result.new.buffer in
-    let wrapper = c.as-slice-in-Bulk.result.now in
-    let handed = c.as-mut-slice-in-Bulk.result.now in
+    let wrapper = c.as_slice-in-Bulk.result.now in
+    let handed = c.as_mut_slice-in-Bulk.result.now in
     let wrapper_is : wrapper ≡ vec_items c.in-Bulk.cbw = search rules in
     let handed_is : handed ≡ vec_items c.in-Bulk.data = search rules in
     let e = with_items_is c.in-Bulk.data buf (search rules) in
     record {
-      bound = subst (λ (b : List ℕ). count_of c.bulk-reply.result ≤ length b) (sym e) (c.bulk-reply.ensures.bound (length buf) c.bulk-result.ensures.bound);
+      bound = subst (λ (b : List ℕ). count_of c.bulk_reply.result ≤ length b) (sym e) (c.bulk_reply.ensures.bound (length buf) c.bulk-result.ensures.bound);
       kept = ap (λ (x : Event). unhanded (event_of x)) (sym c.in-Bulk.is);
-      step = ap (λ b. stepped (reply_of c.bulk-reply.result b) s) e
-          ∙ c.bulk-reply.ensures.step buf s
+      step = ap (λ b. stepped (reply_of c.bulk_reply.result b) s) e
+          ∙ c.bulk_reply.ensures.step buf s
           ∙ ap (λ (t : Bulked). after_bulk t) c.bulk-result.ensures.bulk
           ∙ ap (λ x. after_bulk (bulked lay i x handed (of c.args.stick))) wrapper_is
           ∙ ap (λ x. after_bulk (bulked lay i (vec_items c.in-Bulk.cbw) x (of c.args.stick))) handed_is

@@ -14,10 +14,10 @@ loop-turn-preserved g c =
     let of = stick_of g.M.Medium.meaning in
     let lay = layout_of c.args.stick.layout in
     let same = c.loop-turn.invariant.1 in
-    let did = c.take-turn-stick.ensures.step ∙ ap (λ (l : Layout). step l (of c.loop-turn.stick) (event_in (get_or c.loop-turn.turn-items c.loop-turn.turn-index c.turn-item.result))) same in (
-      far_more lay (of c.args.stick) c.deref-mut-turn-items.result.now (of c.loop-turn.stick) c.loop-turn.turn-items c.loop-turn.turn-index
-          c.turn-item.result c.take-turn-stick.new.turn (of c.take-turn-stick.result) (search rules) c.take-turn-stick.ensures.kept did c.loop-turn.invariant.0,
-      c.take-turn-stick.ensures.layout ∙ same,
+    let did = c.take_turn-stick.ensures.step ∙ ap (λ (l : Layout). step l (of c.loop-turn.stick) (event_in (get_or c.loop-turn.turn-items c.loop-turn.turn-index c.turn-item.result))) same in (
+      far_more lay (of c.args.stick) c.deref_mut-turn-items.result.now (of c.loop-turn.stick) c.loop-turn.turn-items c.loop-turn.turn-index
+          c.turn-item.result c.take_turn-stick.new.turn (of c.take_turn-stick.result) (search rules) c.take_turn-stick.ensures.kept did c.loop-turn.invariant.0,
+      c.take_turn-stick.ensures.layout ∙ same,
     )
 
 pub returns : goal.returns
@@ -25,8 +25,8 @@ returns g c =
     let s0 = stick_of g.M.Medium.meaning c.args.stick in
     let s = stick_of g.M.Medium.meaning c.loop-turn.stick in
     let lay = layout_of c.args.stick.layout in
-    let was = c.deref-mut-turn-items.ensures.value in
-    let done = far_all lay s0 c.deref-mut-turn-items.result.now s c.loop-turn.turn-items c.loop-turn.turn-index (search rules) c.loop-turn.invariant.0 in
+    let was = c.deref_mut-turn-items.ensures.value in
+    let done = far_all lay s0 c.deref_mut-turn-items.result.now s c.loop-turn.turn-items c.loop-turn.turn-index (search rules) c.loop-turn.invariant.0 in
     let len : length c.loop-turn.turn-items ≡ c.args.turns.now.len = search rules in
     record {
       kept = ap (λ ts. map unhanded (map event_in ts)) (with_items_is c.args.turns.now c.loop-turn.turn-items len) ∙ done.2 ∙ ap (λ ts. map unhanded (map event_in ts)) was;

@@ -8,11 +8,11 @@ returns g c =
     record {
       first = c.live-one.ensures;
       second = c.live-other.ensures;
-      secret = secret c.args.first-layout.now (g.M.Medium.meaning c.args.first)
-          (map event_in (vec_items c.args.first-history.now)) (map event_in (vec_items c.args.first-further.now)) (map reply_in (vec_items c.live-one.new.further))
-          c.args.second-layout.now (g.N.Medium.meaning c.args.second)
-          (map event_in (vec_items c.args.second-history.now)) (map event_in (vec_items c.args.second-further.now)) (map reply_in (vec_items c.live-other.new.further))
+      secret = secret c.args.first_layout.now (g.M.Medium.meaning c.args.first)
+          (map event_in (vec_items c.args.first_history.now)) (map event_in (vec_items c.args.first_further.now)) (map reply_in (vec_items c.live-one.new.further))
+          c.args.second_layout.now (g.N.Medium.meaning c.args.second)
+          (map event_in (vec_items c.args.second_history.now)) (map event_in (vec_items c.args.second_further.now)) (map reply_in (vec_items c.live-other.new.further))
           c.live-one.ensures.further c.live-other.ensures.further;
-      private = c.keeps-secrets.ensures;
-      met = c.premises-met.ensures;
+      private = c.keeps_secrets.ensures;
+      met = c.premises_met.ensures;
     }
