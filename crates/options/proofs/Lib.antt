@@ -1,2 +1,3 @@
 pub mod Arguments
 pub mod Texts
+pub mod Unread
