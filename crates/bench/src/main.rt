@@ -1,5 +1,7 @@
 // The bench: reads a script on standard input, and writes a record line for each event on standard output.
 // What a line means, what a stick answers and how that is written are the libraries'; here they are joined.
+#![tactic(auto)]
+
 use anyhow::anyhow;
 use script::buffer::handed_buffer;
 use script::event::Event;

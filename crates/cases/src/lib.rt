@@ -1,3 +1,5 @@
+#![tactic(auto)]
+
 // Examples of the rules, run as tests: each expected answer is what the rules give, by their numbers and bytes.
 #[cfg(test)]
 mod tests {

@@ -1,5 +1,5 @@
 -- A field that is no hexadecimal: the mistake that is told is the one that is due.
-use Rattle.std.proofs.Common.{◌≡◌, ℕ, Bool, true, false, List, Some, None, Option, Err, Result, refl, ap}
+use Rattle.std.proofs.Common.{◌≡◌, ℕ, false, List, Some, None, Option, Err, Result, refl, ap}
 use Rattle.std.specs.Option.{option_map, is_some}
 use Rattle.fields.specs.Readings.{wants_memory}
 use Rattle.fields.specs.declared.error.LineError.{LineError}

@@ -1,5 +1,7 @@
 // How an event is answered on the bench: the buffer that it is handed before, and the record line that is written after it.
 // Nothing here knows of a stick.
+#![tactic(auto)]
+
 pub mod buffer;
 pub mod line;
 pub mod turn;

@@ -1,12 +1,12 @@
 -- Two sticks that were fitted and run: each as the model has it, and the two by what is claimed of all runs.
-use Rattle.std.proofs.Common.{◌≡◌, ℕ, true, ◌⊎◌, ◌↔◌, List, [], ◌∷◌, length, sym, refl, ap, ◌∙◌, subst, inl, inr, ⊎_elim}
+use Rattle.std.proofs.Common.{◌≡◌, ℕ, true, ◌↔◌, List, [], ◌∷◌, length, sym, refl, ap, ◌∙◌, subst, inl, inr}
 use Rattle.model.specs.Blocks.{Block}
 use Rattle.model.specs.Control.{unit_at}
 use Rattle.model.specs.Events.{Event, Reply, after, replies, run, step}
 use Rattle.model.specs.Layouts.{Layout}
 use Rattle.model.specs.Sticks.{Stick, first}
 use Rattle.model.specs.Units.{holds_phrase}
-use Rattle.privacy.specs.Claims.{AlikeBut, Guarded, Locked, OpenedSince, accepts, carries_candidate, completes, is_unlocked}
+use Rattle.privacy.specs.Claims.{AlikeBut, Guarded, OpenedSince, is_unlocked}
 use Rattle.privacy.proofs.Opened.{open_when_opened}
 use Rattle.privacy.proofs.Places.{fits_always}
 use Rattle.privacy.proofs.Secret.{keeps_secret}

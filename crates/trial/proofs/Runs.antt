@@ -1,8 +1,8 @@
 -- A run, some turns on.
-use Rattle.std.proofs.Common.{◌≡◌, ℕ, zero, suc, ◌+◌, ◌<◌, ◌≤◌, List, [], ◌∷◌, ◌++◌, map, length, get_or, take, drop, set, sym, refl, ap, ◌∙◌, subst, arith}
+use Rattle.std.proofs.Common.{◌≡◌, ℕ, zero, suc, ◌+◌, ◌<◌, ◌≤◌, List, [], ◌∷◌, ◌++◌, map, length, get_or, take, drop, set, sym, refl, ap, ◌∙◌, arith}
 use Rattle.std.proofs.lemmas.List.{append_assoc, append-nil, map-append, length-set, drop-set-lt, take_more_set, drop_more, drop_all, take_all}
 use Rattle.events.specs.Happenings.{unhanded}
-use Rattle.model.specs.Events.{Event, Reply, Step, replies, run, step, stepped}
+use Rattle.model.specs.Events.{Step, replies, run, step, stepped}
 use Rattle.model.specs.Layouts.{Layout}
 use Rattle.model.specs.Sticks.{Stick}
 use Rattle.trial.specs.Turns.{event_in, reply_in}

@@ -1,5 +1,7 @@
 // twins: two sticks side by side, each fitted and set up by itself, then both through one common script.
 // It prints both records of the common script, and the first line at which they differ.
+#![tactic(auto)]
+
 ghost use Rattle.std.specs.Prelude.{◌≤◌, length};
 
 use anyhow::anyhow;

@@ -1,4 +1,4 @@
-use Rattle.std.proofs.Common.{◌≡◌, length, Err, string_bytes, sym, ap, ◌∙◌, rules}
+use Rattle.std.proofs.Common.{Err, string_bytes, ap, ◌∙◌, rules}
 use Rattle.std.proofs.lemmas.Result.{err_from_is_err_and}
 use Rattle.options.specs.Choices.{choice_of}
 use Rattle.options.proofs.Arguments.{taken, stopped, ended, lonely}

@@ -1,5 +1,4 @@
-use Rattle.std.proofs.Common.{◌≡◌, ◌+◌, ◌<◌, length, vec_items, sym, ◌∙◌, arith, rules}
-use Rattle.std.proofs.lemmas.Bool.{eqb-true, eqb-false}
+use Rattle.std.proofs.Common.{◌+◌, ◌<◌, length, vec_items, rules}
 use Rattle.record.proofs.Records.{line_none, line_some}
 use Rattle.record.proofs.line.record_line.Goals as goal
 use Rattle.record.proofs.line.record_line.Goals.{else-is_empty-via-then-is_empty+else-is_empty-2, else-is_empty-via-else-is_empty}

@@ -5,7 +5,7 @@ use Rattle.events.specs.declared.Event.{Event}
 use Rattle.layout.specs.Tables.{layout_of}
 use Rattle.model.specs.Bulk.{Bulked, bulked}
 use Rattle.model.specs.Control.{Transferred, controlled}
-use Rattle.model.specs.Events.{Step, after_bulk, after_control, step, stepped}
+use Rattle.model.specs.Events.{after_bulk, after_control, step, stepped}
 use Rattle.stick.specs.Meaning.{stick_of}
 use Rattle.trial.specs.Turns.{count_of, reply_of}
 use Rattle.trial.proofs.run.perform.Goals as goal

@@ -1,5 +1,5 @@
-use Rattle.std.proofs.Common.{◌≡◌, ◌+◌, ◌*◌, ◌<◌, length, drop, sym, ap, ◌∙◌, rules}
-use Rattle.values.specs.Decimals.{capped, digits_said}
+use Rattle.std.proofs.Common.{◌+◌, ◌<◌, length, drop, sym, ap, ◌∙◌, rules}
+use Rattle.values.specs.Decimals.{digits_said}
 use Rattle.values.proofs.Numbers.{digits_more, digits_stop, digits_all, decimal_some}
 use Rattle.values.proofs.decimal.read_decimal.Goals as goal
 

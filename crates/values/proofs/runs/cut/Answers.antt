@@ -1,5 +1,4 @@
-use Rattle.std.proofs.Common.{◌+◌, ◌-◌, ◌∷◌, length, take, drop, sym, ap, ◌∙◌, arith, length-drop, length-take}
-use Rattle.values.specs.Runs.{pieces}
+use Rattle.std.proofs.Common.{sym, ◌∙◌, arith, length-drop, length-take}
 use Rattle.values.proofs.Pieces.{before_none, before_more, before_mark, before_all, mark_parts}
 use Rattle.values.proofs.runs.cut.Goals as goal
 

@@ -1,4 +1,4 @@
-use Rattle.std.proofs.Common.{◌≡◌, sym, ap, ◌∙◌, rules}
+use Rattle.std.proofs.Common.{sym}
 use Rattle.values.proofs.Pieces.{pair_three_said}
 use Rattle.values.proofs.runs.read_pair.Goals as goal
 

@@ -1,4 +1,4 @@
-use Rattle.std.proofs.Common.{vec_items, rules}
+use Rattle.std.proofs.Common.{vec_items}
 use Rattle.values.proofs.Pieces.{behind_pair}
 use Rattle.values.proofs.runs.read_runs.Goals as goal
 
