@@ -1,6 +1,6 @@
+// Examples of the rules, run as tests: each expected answer is what the rules give, by their numbers and bytes.
 #![tactic(auto)]
 
-// Examples of the rules, run as tests: each expected answer is what the rules give, by their numbers and bytes.
 #[cfg(test)]
 mod tests {
     use interfaces::descriptor::device_descriptor;

@@ -1,6 +1,6 @@
 -- How many bytes a run of good blocks has, and what that means for the end of a transfer.
 use Rattle.std.proofs.Common.{◌≡◌, ℕ, zero, suc, ◌+◌, ◌*◌, ◌<◌, true, false, eqb, List, [], ◌∷◌, ◌++◌, length, get_or, take, drop, sym, refl, ap, ◌∙◌, arith}
-use Rattle.std.specs.List.{AllByRecursion as All}
+use Rattle.std.specs.List.{AllByRecursion}
 use Rattle.std.proofs.lemmas.List.{length-append, take_at}
 use Rattle.std.proofs.lemmas.Bool.{cond-true, cond-false}
 use Rattle.std.proofs.lemmas.Bool.Decides.{nat_tests}
@@ -12,7 +12,7 @@ use Rattle.model.specs.declared.sense.Sense.TheVariants.{None, ReadFault}
 use Rattle.commands.specs.Endings.{front}
 use Rattle.commands.specs.Transfers.{loaded}
 
-whole_at : (m : List Block) (b : ℕ) → All Whole m → Whole (get_or m b bad)
+whole_at : (m : List Block) (b : ℕ) → AllByRecursion Whole m → Whole (get_or m b bad)
 whole_at [] b w = tt
 whole_at (x ∷ xs) zero w = w.0
 whole_at (x ∷ xs) (suc b) w = whole_at xs b w.1
@@ -24,12 +24,12 @@ counted_one m b n bad e w h = refl
 counted_one m b n (good bs) e w h =
     ap (λ y. length (bytes_or y [] ++ bytes_from n (suc b) m)) e ∙ length-append bs (bytes_from n (suc b) m) ∙ omega (arith, w, h)
 
-counted : (m : List Block) (n b : ℕ) → All Whole m → length (bytes_from (good_run n b m) b m) ≡ 512 * good_run n b m
+counted : (m : List Block) (n b : ℕ) → AllByRecursion Whole m → length (bytes_from (good_run n b m) b m) ≡ 512 * good_run n b m
 counted m zero b w = refl
 counted m (suc n) b w = counted_one m b (good_run n (suc b) m) (get_or m b bad) refl (whole_at m b w) (counted m n (suc b) w)
 
 -- the buffer after a reading has the blocks that moved at its front
-module _ (m : List Block) (n b : ℕ) (w : All Whole m) (ds : List ℕ) where
+module _ (m : List Block) (n b : ℕ) (w : AllByRecursion Whole m) (ds : List ℕ) where
   pub loaded_front : loaded n b m ds ≡ front (bytes_from (good_run n b m) b m) ds
   loaded_front = ap (λ k. bytes_from (good_run n b m) b m ++ drop k ds) (sym (counted m n b w))
 
@@ -48,7 +48,7 @@ fewer_moved count n s bs m lt =
     sym (cond-false (eqb n count) _ _ other)
 
 -- the end of a reading, by the blocks k that moved and the buffer afterwards
-module _ (m : List Block) (n b : ℕ) (w : All Whole m) (ds buf : List ℕ) (is : buf ≡ loaded n b m ds) (a k : ℕ) (run : k ≡ good_run n b m) where
+module _ (m : List Block) (n b : ℕ) (w : AllByRecursion Whole m) (ds buf : List ℕ) (is : buf ≡ loaded n b m ds) (a k : ℕ) (run : k ≡ good_run n b m) where
   bytes : take (512 * k) buf ≡ bytes_from (good_run n b m) b m
   bytes = ap (take (512 * k)) is ∙ ap (λ x. take (512 * x) (loaded n b m ds)) run ∙ loaded_bytes m n b w ds
 

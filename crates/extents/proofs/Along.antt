@@ -1,5 +1,5 @@
 use Rattle.std.proofs.Common.{◌≡◌, ℕ, ◌+◌, ◌<◌, ◌≤◌, true, cond, ◌&&◌, ltb, leb, List, [], ◌∷◌, length, get_or, drop, Some, Decides, sym, refl, ap, ◌∙◌, arith}
-use Rattle.std.specs.List.{AllByRecursion as All}
+use Rattle.std.specs.List.{AllByRecursion}
 use Rattle.std.proofs.lemmas.List.{at_drop_more}
 use Rattle.std.proofs.ByRecursion.{All-weaker}
 use Rattle.std.proofs.lemmas.Bool.{and_parts, and_from, ltb-true, leb-true, lt-ltb, le-leb}
@@ -18,7 +18,7 @@ module _ {E : Type 0} (at len : E → ℕ) where
       at_drop_more (found at len i pos) xs i x h ∙ ap (λ y. cond (holds at len pos y) (Some i) (found at len (i + 1) pos (drop (i + 1) xs))) (sym read)
 
   -- the test decides the fact
-  from_true : (low end : ℕ) (xs : List E) → sound at len low end xs ≡ true → All (λ x. low ≤ at x) xs × (All (Fitting at len end) xs × Apart at len xs)
+  from_true : (low end : ℕ) (xs : List E) → sound at len low end xs ≡ true → AllByRecursion (λ x. low ≤ at x) xs × (AllByRecursion (Fitting at len end) xs × Apart at len xs)
   from_true low end [] e = (tt, (tt, tt))
   from_true low end (x ∷ xs) e =
       let p = and_parts (fitting at len low end x) (sound at len (at x + len x) end xs) e in
@@ -32,7 +32,7 @@ module _ {E : Type 0} (at len : E → ℕ) where
         (((pos, hi), rest.1.0), (rest.0, rest.1.1)),
       )
 
-  to_true : (low end : ℕ) (xs : List E) → All (λ x. low ≤ at x) xs → All (Fitting at len end) xs → Apart at len xs → sound at len low end xs ≡ true
+  to_true : (low end : ℕ) (xs : List E) → AllByRecursion (λ x. low ≤ at x) xs → AllByRecursion (Fitting at len end) xs → Apart at len xs → sound at len low end xs ≡ true
   to_true low end [] a b c = refl
   to_true low end (x ∷ xs) a b c =
       and_from (fitting at len low end x) (sound at len (at x + len x) end xs)
@@ -40,7 +40,7 @@ module _ {E : Type 0} (at len : E → ℕ) where
       (and_from (leb low (at x)) (leb (at x + len x) end) (le-leb low (at x) a.0) (le-leb (at x + len x) end b.0.1)))
       (to_true (at x + len x) end xs c.0 b.1 c.1)
 
-  all_above_0 : (xs : List E) → All (λ x. 0 ≤ at x) xs
+  all_above_0 : (xs : List E) → AllByRecursion (λ x. 0 ≤ at x) xs
   all_above_0 [] = tt
   all_above_0 (x ∷ xs) = (omega arith, all_above_0 xs)
 

@@ -1,6 +1,6 @@
 -- What the search answers, in words: an element that holds the position, the only one of a list that passes the check.
 use Rattle.std.proofs.Common.{◌≡◌, ℕ, zero, suc, ◌+◌, ◌<◌, ◌≤◌, Bool, true, false, cond, ltb, leb, List, [], ◌∷◌, length, Some, None, Option, sym, refl, ap, subst, ⊎_elim, arith}
-use Rattle.std.specs.List.{HoldsAt, AllByRecursion as All}
+use Rattle.std.specs.List.{HoldsAt, AllByRecursion}
 use Rattle.std.proofs.ByRecursion.{All-get_or}
 use Rattle.std.proofs.lemmas.Bool.{and_parts, and_from, ltb-true, leb-true, lt-ltb, le-leb, cases_Bool, both_ways}
 use Rattle.model.specs.Extents.{Sound, Holds, holds, found, Finds}
@@ -17,7 +17,7 @@ module _ {E : Type 0} (start len : E → ℕ) where
 
   -- the search from number i on
   abbrev Seen : ℕ → ℕ → List E → Option ℕ → Type 0
-  Seen i pos xs None = All (λ x. Holds start len pos x → ⊥) xs
+  Seen i pos xs None = AllByRecursion (λ x. Holds start len pos x → ⊥) xs
   Seen i pos xs (Some j) = (k : ℕ) × (j ≡ i + k) × (k < length xs) × HoldsAt (Holds start len pos) xs k
 
   seen_later : (i pos : ℕ) (x : E) (xs : List E) (r : Option ℕ) → (Holds start len pos x → ⊥) → Seen (i + 1) pos xs r → Seen i pos (x ∷ xs) r
@@ -35,7 +35,7 @@ module _ {E : Type 0} (start len : E → ℕ) where
       (cases_Bool (holds start len pos x))
 
   -- a later element of a list that passes does not hold what the first one holds
-  first_only : (pos : ℕ) (x : E) (xs : List E) (k : ℕ) → All (λ y. start x + len x ≤ start y) xs → k < length xs → Holds start len pos x → HoldsAt (Holds start len pos) xs k → ⊥
+  first_only : (pos : ℕ) (x : E) (xs : List E) (k : ℕ) → AllByRecursion (λ y. start x + len x ≤ start y) xs → k < length xs → Holds start len pos x → HoldsAt (Holds start len pos) xs k → ⊥
   first_only pos x xs k later lt here there =
       let above = All-get_or (λ y. start x + len x ≤ start y) xs k x lt later in
       let low = (there x).0 in

@@ -1,6 +1,6 @@
 -- How blanks part a text into words.
 use Rattle.std.proofs.Common.{◌≡◌, ℕ, ◌<◌, Bool, true, false, List, [], ◌∷◌, ◌++◌, length, sym, refl, ap, ◌∙◌, arith}
-use Rattle.std.specs.List.{AllByRecursion as All}
+use Rattle.std.specs.List.{AllByRecursion}
 use Rattle.std.proofs.lemmas.Bool.{ne_eqb}
 use Rattle.fields.specs.Words.{is_blank, with_char, pieces, non_empty, words}
 use Rattle.fields.specs.Laws.{WordsArePartedByBlanks}
@@ -29,13 +29,13 @@ non_empty_append ((c ∷ v) ∷ vs) ws = ap (λ us. (c ∷ v) ∷ us) (non_empty
 pub words_parted : (before after : List ℕ) → words (before ++ (0x20 ∷ after)) ≡ words before ++ words after
 words_parted before after = ap non_empty (pieces_parted before after) ∙ non_empty_append (pieces before) (pieces after)
 
-pieces_whole : (word : List ℕ) → All (λ c. c ≡ 0x20 → ⊥) word → pieces word ≡ word ∷ []
+pieces_whole : (word : List ℕ) → AllByRecursion (λ c. c ≡ 0x20 → ⊥) word → pieces word ≡ word ∷ []
 pieces_whole [] all = refl
 pieces_whole (c ∷ cs) all =
     let dark : is_blank c ≡ false = ne_eqb c 0x20 all.0 in
     rw dark (ap (with_char c) (pieces_whole cs all.1))
 
-pub words_whole : (word : List ℕ) → 0 < length word → All (λ c. c ≡ 0x20 → ⊥) word → words word ≡ word ∷ []
+pub words_whole : (word : List ℕ) → 0 < length word → AllByRecursion (λ c. c ≡ 0x20 → ⊥) word → words word ≡ word ∷ []
 words_whole [] some all = absurd (omega arith)
 words_whole (c ∷ cs) some all = ap non_empty (pieces_whole (c ∷ cs) all)
 

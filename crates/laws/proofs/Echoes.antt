@@ -1,6 +1,6 @@
 -- The tag of a CBW in the CSW that answers it.
 use Rattle.std.proofs.Common.{◌≡◌, ℕ, ◌+◌, ◌*◌, ◌/◌, ◌%◌, ◌<◌, ◌≤◌, List, [], ◌∷◌, length, take, drop, sym, refl, ap, ◌∙◌, arith}
-use Rattle.std.specs.List.{AllByRecursion as All}
+use Rattle.std.specs.List.{AllByRecursion}
 use Rattle.std.proofs.ByRecursion.{All-get_or}
 use Rattle.std.proofs.lemmas.List.{drop_more}
 use Rattle.model.specs.Bytes.{byte, le32_of}
@@ -27,7 +27,7 @@ four cbw h =
     ∙ ap (λ (l : List ℕ). byte cbw 4 ∷ byte cbw 5 ∷ take 2 l) (drop_more cbw 6 0 (omega arith))
     ∙ ap (λ (l : List ℕ). byte cbw 4 ∷ byte cbw 5 ∷ byte cbw 6 ∷ take 1 l) (drop_more cbw 7 0 (omega arith))
 
-tag_of : (cbw : List ℕ) (c : Cbw) → All (λ b. b < 256) cbw → Fields cbw c → le32_of c.tag ≡ take 4 (drop 4 cbw)
+tag_of : (cbw : List ℕ) (c : Cbw) → AllByRecursion (λ b. b < 256) cbw → Fields cbw c → le32_of c.tag ≡ take 4 (drop 4 cbw)
 tag_of cbw c small f =
     let at : (k : ℕ) → k < 31 → byte cbw k < 256 = λ k h. All-get_or (λ b. b < 256) cbw k 0 (omega arith) small in
     ap le32_of f.tag

@@ -1,6 +1,6 @@
 -- What holds of every bulk command, whatever the layout, the stick and the bytes that arrive.
 use Rattle.std.specs.Prelude.{◌≡◌, ℕ, ◌+◌, ◌-◌, ◌*◌, ◌<◌, ◌≤◌, false, ◌⊎◌, ◌↔◌, List, [], ◌∷◌, ◌++◌, length, take, drop, replicate, Some, ◌≢◌, slice_index, slice_index_or}
-use Rattle.std.specs.List.{AllByRecursion as All}
+use Rattle.std.specs.List.{AllByRecursion}
 use Rattle.model.specs.Blocks.{bad, good}
 use Rattle.model.specs.Bulk.{Bulked, bulked, place_at}
 use Rattle.model.specs.Bytes.{byte, le32}
@@ -42,7 +42,7 @@ pub record Echo (cbw csw : List ℕ) : Type 0 where
 
 -- a call that is not turned down answers so
 abbrev pub TagEchoed : Type 0
-TagEchoed = (lay : Layout) (s : Stick) (i : ℕ) (cbw ds : List ℕ) → All (λ b. b < 256) cbw → (bulked lay i cbw ds s).code ≡ 0 → Echo cbw (bulked lay i cbw ds s).csw
+TagEchoed = (lay : Layout) (s : Stick) (i : ℕ) (cbw ds : List ℕ) → AllByRecursion (λ b. b < 256) cbw → (bulked lay i cbw ds s).code ≡ 0 → Echo cbw (bulked lay i cbw ds s).csw
 
 -- the residue and the status that a CSW reports
 abbrev pub residue_of : List ℕ → ℕ

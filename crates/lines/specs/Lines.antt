@@ -8,7 +8,7 @@ use Rattle.fields.specs.Words.{words}
 use Rattle.fields.specs.declared.error.LineError.{LineError}
 use Rattle.fields.specs.declared.error.LineError.TheVariants.{UnknownLetter, MissingField, TooManyFields, InterfaceWidth, ClockWidth}
 use Rattle.lines.specs.declared.line.Line.{Line}
-use Rattle.lines.specs.declared.line.Line.TheVariants.{Blank, Event as Event_line}
+use Rattle.lines.specs.declared.line.Line.TheVariants.{Blank, Event as EventLine}
 
 pub data Said : Type 0 where
   blank : Said
@@ -16,7 +16,7 @@ pub data Said : Type 0 where
 
 abbrev pub said : Line → Said
 said Blank = blank
-said (Event_line e) = event (event_of e)
+said (EventLine e) = event (event_of e)
 
 -- the first mistake ends it
 abbrev pub and_then : {X Y : Type 0} → Result X LineError → (X → Result Y LineError) → Result Y LineError

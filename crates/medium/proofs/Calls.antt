@@ -1,6 +1,6 @@
 -- The ways out of a call, over any blocks, and the laws that follow.
 use Rattle.std.proofs.Common.{◌≡◌, ℕ, ◌<◌, ◌≤◌, true, false, cond, ◌&&◌, eqb, ltb, ◌⊎◌, List, length, get_or, set, Ok, Err, Result, sym, refl, ap, ◌∙◌, subst, inl, inr, ⊎_elim, arith}
-use Rattle.std.specs.List.{AllByRecursion as All}
+use Rattle.std.specs.List.{AllByRecursion}
 use Rattle.std.proofs.lemmas.List.{length-set, get_or-set_same, get_or-set_other, set-get_or}
 use Rattle.std.proofs.ByRecursion.{All-set}
 use Rattle.std.proofs.lemmas.Bool.{cases_eq, cases_lt}
@@ -8,7 +8,7 @@ use Rattle.std.proofs.lemmas.Bool.Decides.{nat_tests}
 use Rattle.model.specs.declared.refusal.Fault.{Fault}
 use Rattle.model.specs.declared.refusal.Fault.TheVariants.{Outside, Bad}
 use Rattle.model.specs.Blocks.{Block, bad, good, reaches, block_answer, bytes_or, Whole, answer, filled, written}
-use Rattle.medium.specs.Laws.{Exactly, Bad_at, Good_at, MediumLaws}
+use Rattle.medium.specs.Laws.{Exactly, BadAt, GoodAt, MediumLaws}
 
 -- a call with n bytes for block b: past the end or not 512 bytes; a bad block; a good one
 pub data Way (m : List Block) (b n : ℕ) : Type 0 where
@@ -60,20 +60,20 @@ module _ (m : List Block) (b : ℕ) where
   outside_from n (at_bad r h l is) e = absurd (never_two (answer m b n) e (rw (r, is) refl))
   outside_from n (at_good p r h l is) e = absurd (never_both (answer m b n) Outside (rw (r, is) refl) e)
 
-  bad_from : (n : ℕ) → Way m b n → answer m b n ≡ Err Bad → Bad_at m b × (n ≡ 512)
+  bad_from : (n : ℕ) → Way m b n → answer m b n ≡ Err Bad → BadAt m b × (n ≡ 512)
   bad_from n (outside r h) e = absurd (never_two (answer m b n) (rw r refl) e)
   bad_from n (at_bad r h l is) e = ((h, is), l)
   bad_from n (at_good p r h l is) e = absurd (never_both (answer m b n) Bad (rw (r, is) refl) e)
 
-  pub good_from : (n : ℕ) → Way m b n → answer m b n ≡ Ok tt → (n ≡ 512) × ((p : List ℕ) × Good_at m b p)
+  pub good_from : (n : ℕ) → Way m b n → answer m b n ≡ Ok tt → (n ≡ 512) × ((p : List ℕ) × GoodAt m b p)
   good_from n (outside r h) e = absurd (never_both (answer m b n) Outside e (rw r refl))
   good_from n (at_bad r h l is) e = absurd (never_both (answer m b n) Bad e (rw (r, is) refl))
   good_from n (at_good p r h l is) e = (l, (p, (h, is)))
 
-  pub read_good : (p buf : List ℕ) → Good_at m b p → length buf ≡ 512 → (answer m b (length buf) ≡ Ok tt) × (filled m b buf ≡ p)
+  pub read_good : (p buf : List ℕ) → GoodAt m b p → length buf ≡ 512 → (answer m b (length buf) ≡ Ok tt) × (filled m b buf ≡ p)
   read_good p buf (h, is) l = let r = reaches_true m b (length buf) h l in (rw (r, is) refl, rw (r, is) refl)
 
-  pub write_good : (p bs : List ℕ) → Good_at m b p → length bs ≡ 512 → written m b bs ≡ set m b (good bs)
+  pub write_good : (p bs : List ℕ) → GoodAt m b p → length bs ≡ 512 → written m b bs ≡ set m b (good bs)
   write_good p bs (h, is) l = let r = reaches_true m b (length bs) h l in rw (r, is) refl
 
   read_refused : (buf : List ℕ) (f : Fault) → Way m b (length buf) → answer m b (length buf) ≡ Err f → filled m b buf ≡ buf
@@ -95,7 +95,7 @@ module _ (m : List Block) (b : ℕ) where
 -- the blocks after a write: as they were, or with one good block set
 data After (m : List Block) (b : ℕ) (bs : List ℕ) : Type 0 where
   as_before : written m b bs ≡ m → After m b bs
-  one_set : (p : List ℕ) → length bs ≡ 512 → Good_at m b p → written m b bs ≡ set m b (good bs) → After m b bs
+  one_set : (p : List ℕ) → length bs ≡ 512 → GoodAt m b p → written m b bs ≡ set m b (good bs) → After m b bs
 
 after_way : (m : List Block) (b : ℕ) (bs : List ℕ) → Way m b (length bs) → After m b bs
 after_way m b bs (outside r h) = as_before (refused_write m b bs Outside (rw r refl))
@@ -114,9 +114,9 @@ module _ (m : List Block) (b : ℕ) (bs : List ℕ) where
   other_after (as_before e) c ne = ap (λ x. get_or x c bad) e
   other_after (one_set p l g e) c ne = ap (λ x. get_or x c bad) e ∙ get_or-set_other m b c (good bs) bad ne
 
-  whole_after : After m b bs → All Whole m → All Whole (written m b bs)
-  whole_after (as_before e) w = subst (λ (x : List Block). All Whole x) (sym e) w
-  whole_after (one_set p l g e) w = subst (λ (x : List Block). All Whole x) (sym e) (All-set Whole m b (good bs) l w)
+  whole_after : After m b bs → AllByRecursion Whole m → AllByRecursion Whole (written m b bs)
+  whole_after (as_before e) w = subst (λ (x : List Block). AllByRecursion Whole x) (sym e) w
+  whole_after (one_set p l g e) w = subst (λ (x : List Block). AllByRecursion Whole x) (sym e) (All-set Whole m b (good bs) l w)
 
   -- at the block itself, the mark stays
   here_after : After m b bs → Exactly (get_or (written m b bs) b bad ≡ bad) (get_or m b bad ≡ bad)
@@ -138,7 +138,7 @@ module _ (m : List Block) (b : ℕ) (bs : List ℕ) where
   pub count_kept : length (written m b bs) ≡ length m
   count_kept = length_after (after m b bs)
 
-  marks_kept : (c : ℕ) → Exactly (Bad_at (written m b bs) c) (Bad_at m c)
+  marks_kept : (c : ℕ) → Exactly (BadAt (written m b bs) c) (BadAt m c)
   marks_kept c =
       let k = mark_kept c in
       let n = count_kept in

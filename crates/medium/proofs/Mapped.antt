@@ -1,7 +1,7 @@
 -- Blocks on the pages of a memory: what they are one by one, which calls they take, and what a write to one page makes of them.
 use Rattle.std.proofs.Common.{◌≡◌, ℕ, ◌+◌, ◌*◌, ◌<◌, ◌≤◌, true, false, cond, ◌⊎◌, List, length, get_or, set, Ok, Err, Result, sym, ap, ◌∙◌, subst, inl, inr, ⊎_elim, arith}
 use borrow.Rule.Slice.PartMut.{put_mid}
-use Rattle.std.specs.List.{AllByRecursion as All}
+use Rattle.std.specs.List.{AllByRecursion}
 use Rattle.std.proofs.lemmas.List.FromFn.{length-map-range_with_len, get_or-map-range_with_len}
 use Rattle.std.proofs.ByRecursion.{All-from_get_or}
 use Rattle.std.proofs.lemmas.List.{same_lists, length-set, get_or-set_same, get_or-set_other}
@@ -10,7 +10,7 @@ use Rattle.model.specs.declared.layout.BadRun.{BadRun}
 use Rattle.model.specs.declared.refusal.Fault.{Fault}
 use Rattle.model.specs.declared.refusal.Fault.TheVariants.{Outside, Bad}
 use Rattle.model.specs.Blocks.{Block, bad, good, block_answer, Whole, answer, filled, written, page, is_bad, block_on, mapped_blocks}
-use Rattle.medium.specs.Laws.{Good_at}
+use Rattle.medium.specs.Laws.{GoodAt}
 use Rattle.medium.proofs.Calls.{way, good_not_bad, answer_outside, answer_at, good_from, read_good, write_good, refused_write}
 use Rattle.medium.proofs.Pages.{length_part, page_same, page_other}
 
@@ -28,7 +28,7 @@ module _ (mem : List ℕ) (runs : List BadRun) (at : ℕ → ℕ) (n : ℕ) wher
   pub getD_mapped : (b : ℕ) (d : Block) → b < n → get_or (mapped_blocks mem runs at n) b d ≡ block_on mem runs b (at b)
   getD_mapped b d h = get_or-map-range_with_len (λ k. block_on mem runs k (at k)) 0 n b b d h (omega arith)
 
-  pub whole_mapped : ((b : ℕ) → b < n → 512 * at b + 512 ≤ length mem) → All Whole (mapped_blocks mem runs at n)
+  pub whole_mapped : ((b : ℕ) → b < n → 512 * at b + 512 ≤ length mem) → AllByRecursion Whole (mapped_blocks mem runs at n)
   whole_mapped room =
       All-from_get_or Whole (mapped_blocks mem runs at n) bad
       (λ b i. let h : b < n = subst (λ (x : ℕ). b < x) length_mapped i in
@@ -72,7 +72,7 @@ module _ (mem : List ℕ) (runs : List BadRun) (at : ℕ → ℕ) (n : ℕ) wher
       let h : b < n = subst (λ (x : ℕ). b < x) length_mapped g.1.1.0 in
       record { within = h; size = g.0; fine = not_bad b g.1.0 (sym (getD_mapped b bad h) ∙ g.1.1.1) }
 
-  good_at : (b : ℕ) → b < n → is_bad runs b ≡ false → Good_at (mapped_blocks mem runs at n) b (page mem (at b))
+  good_at : (b : ℕ) → b < n → is_bad runs b ≡ false → GoodAt (mapped_blocks mem runs at n) b (page mem (at b))
   good_at b h f = (inside b h, getD_mapped b bad h ∙ ap (λ x. cond x bad (good (page mem (at b)))) f)
 
   pub read_mapped : (b : ℕ) (buf : List ℕ) → Ok tt ≡ answer (mapped_blocks mem runs at n) b (length buf) → page mem (at b) ≡ filled (mapped_blocks mem runs at n) b buf

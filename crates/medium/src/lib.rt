@@ -8,7 +8,7 @@ pub mod laws;
 pub mod rules;
 
 ghost use Rattle.std.specs.Prelude.{◌≡◌, ◌≤◌, List, length};
-ghost use Rattle.std.specs.List.{AllByRecursion as All};
+ghost use Rattle.std.specs.List.{AllByRecursion};
 ghost use Rattle.model.specs.Blocks.{Block, Whole, answer, filled, written};
 
 use model::refusal::Fault;
@@ -39,5 +39,5 @@ pub trait Medium {
 
     ghost few: { (s : Self) → length (meaning s) ≤ 1024 };
 
-    ghost whole: { (s : Self) → All Whole (meaning s) };
+    ghost whole: { (s : Self) → AllByRecursion Whole (meaning s) };
 }

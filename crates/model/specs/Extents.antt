@@ -1,6 +1,6 @@
 -- Whatever has a start and a length: bad runs and unit places in blocks, the parts of a Put in bytes.
 use Rattle.std.specs.Prelude.{◌≡◌, ℕ, ◌+◌, ◌<◌, ◌≤◌, Bool, true, false, cond, ◌&&◌, ◌||◌, List, [], ◌∷◌, length, Some, None, Option, nat_le, nat_lt}
-use Rattle.std.specs.List.{HoldsAt, AllByRecursion as All}
+use Rattle.std.specs.List.{HoldsAt, AllByRecursion}
 
 module _ {E : Type 0} (start len : E → ℕ) where
   -- not empty, and over by the end
@@ -10,11 +10,11 @@ module _ {E : Type 0} (start len : E → ℕ) where
   -- each is over before any later one starts: sorted by start, and none overlapping
   abbrev pub Apart : List E → Type 0
   Apart [] = Unit {0}
-  Apart (x ∷ xs) = All (λ y. start x + len x ≤ start y) xs × Apart xs
+  Apart (x ∷ xs) = AllByRecursion (λ y. start x + len x ≤ start y) xs × Apart xs
 
   -- the check: none empty, sorted by start, none overlapping, all ending by a given end
   abbrev pub Sound : ℕ → List E → Type 0
-  Sound end xs = All (Fitting end) xs × Apart xs
+  Sound end xs = AllByRecursion (Fitting end) xs × Apart xs
 
   -- the same as a test along the list; `low` is where the one before ended
   abbrev pub fitting : ℕ → ℕ → E → Bool
@@ -44,6 +44,6 @@ module _ {E : Type 0} (start len : E → ℕ) where
   -- the search's answer in words: none exactly where no element holds the position; else an element that does, and in a list that
   -- passes the check no other does
   abbrev pub Finds : ℕ → List E → Option ℕ → Type 0
-  Finds pos xs None = All (λ x. Holds pos x → ⊥) xs
+  Finds pos xs None = AllByRecursion (λ x. Holds pos x → ⊥) xs
   Finds pos xs (Some i) =
       (i < length xs) × HoldsAt (Holds pos) xs i × ((end : ℕ) → Sound end xs → (k : ℕ) → k < length xs → HoldsAt (Holds pos) xs k → k ≡ i)

@@ -1,6 +1,6 @@
 -- Parts cut one behind the other, and where they end.
 use Rattle.std.proofs.Common.{◌≡◌, ℕ, zero, suc, ◌+◌, ◌-◌, ◌<◌, ◌≤◌, Bool, cond, ◌&&◌, eqb, List, [], ◌∷◌, length, get_or, take, Some, None, sym, refl, ap, ◌∙◌, arith}
-use Rattle.std.specs.List.{AllByRecursion as All}
+use Rattle.std.specs.List.{AllByRecursion}
 use Rattle.model.specs.Bytes.{byte}
 use Rattle.model.specs.Extents.{sound}
 use Rattle.model.specs.Parts.{part, part_start, part_length, cut_parts, parts_end, parts_fill}
@@ -19,7 +19,7 @@ last_end at (p ∷ q ∷ ps) d h =
     last_end (p.start + p.length) (q ∷ ps) d (omega arith) ∙ ap (λ (x : Part). part_start x + part_length x) step
 
 -- no later than the latest of them, and so the first n
-pub ends_within : (b at n : ℕ) (ps : List Part) → at ≤ b → All (λ p. p.start + p.length ≤ b) ps → parts_end at (take n ps) ≤ b
+pub ends_within : (b at n : ℕ) (ps : List Part) → at ≤ b → AllByRecursion (λ p. p.start + p.length ≤ b) ps → parts_end at (take n ps) ≤ b
 ends_within b at zero ps h all = h
 ends_within b at (suc n) [] h all = h
 ends_within b at (suc n) (p ∷ ps) h (here, all) = ends_within b (p.start + p.length) n ps here all

@@ -2,7 +2,7 @@
 // They pass the same order check, and are found by the same search, as runs and units.
 ghost use Rattle.std.specs.Prelude.{◌≡◌, ◌+◌, ◌^◌, ◌<◌, ◌≤◌, true, ◌&&◌, length, take, IfSome, if◌then◌else◌, Some, None, ◌==◌};
 ghost use Rattle.std.specs.Option.{option_map};
-ghost use Rattle.std.specs.List.{AllByRecursion as All};
+ghost use Rattle.std.specs.List.{AllByRecursion};
 ghost use Rattle.model.specs.Bytes.{byte};
 ghost use Rattle.model.specs.Extents.{Fitting, sound, found, Finds};
 ghost use Rattle.model.specs.Parts.{part, part_start, part_length, cut_parts, parts_end, parts_fill, part_bytes, phrase_in, hint_in, secret_of, change_of, candidate_in, secret_in, change_in};
@@ -48,7 +48,7 @@ fn part_at(data: &[u8], at: u32) -> Part
 // The first three parts, one behind the other; no Put carries more.
 fn cut_parts(data: &[u8]) -> [Part; 3]
     ensures value { result ≡ cut_parts 3 0 «data».now }
-    ensures bound { All (λ p. p.start + p.length ≤ 765) result }
+    ensures bound { AllByRecursion (λ p. p.start + p.length ≤ 765) result }
 {
     let first = part_at(data, 0);
     let second = part_at(data, first.length);
@@ -70,7 +70,7 @@ fn parts_end(parts: &[Part]) -> u64
 fn do_fill(parts: &[Part], data: &[u8]) -> bool
     requires { parts_end 0 parts.now < 2 ^ 32 }
     ensures value { result ≡ (sound part_start part_length 0 (length «data».now) parts.now && parts_end 0 parts.now == length «data».now) }
-    ensures inside { result ≡ true → All (Fitting part_start part_length (length «data».now)) parts.now }
+    ensures inside { result ≡ true → AllByRecursion (Fitting part_start part_length (length «data».now)) parts.now }
 {
     match u32::try_from(data.len()) {
         Ok(end) => is_sound(parts, end) && parts_end(parts) == u64::from(end),
@@ -82,7 +82,7 @@ fn do_fill(parts: &[Part], data: &[u8]) -> bool
 fn filling_parts(data: &[u8], count: usize) -> Option<[Part; 3]>
     requires { count ≤ 3 }
     ensures value { result ≡ (if parts_fill count «data».now then Some (cut_parts 3 0 «data».now) else None) }
-    ensures inside { IfSome result (λ ps. All (Fitting part_start part_length (length «data».now)) (take count ps)) }
+    ensures inside { IfSome result (λ ps. AllByRecursion (Fitting part_start part_length (length «data».now)) (take count ps)) }
 {
     let parts = cut_parts(data);
     if do_fill(&parts[0..count], data) {

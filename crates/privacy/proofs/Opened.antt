@@ -105,25 +105,25 @@ worked_all lay u s =
       | false ↦ same (unit_at u s).standing
     ]
 
-Put_at : ℕ → ℕ → Bool → UnitPut → Stick → Type 0
-Put_at u v n p s = Fair (eqb v u && opens p && eqb (turned n p (unit_at v s)).code 0) (eqb v u && closes_unit p && eqb (turned n p (unit_at v s)).code 0) (unit_at u s).standing (get_or (alter v (λ x. (turned n p x).after) s.units) u new_unit).standing
+PutAt : ℕ → ℕ → Bool → UnitPut → Stick → Type 0
+PutAt u v n p s = Fair (eqb v u && opens p && eqb (turned n p (unit_at v s)).code 0) (eqb v u && closes_unit p && eqb (turned n p (unit_at v s)).code 0) (unit_at u s).standing (get_or (alter v (λ x. (turned n p x).after) s.units) u new_unit).standing
 
 -- the Put is for this unit
-put_here : (lay : Layout) (u v : ℕ) (n : Bool) (p : UnitPut) (s : Stick) → v ≡ u → Put_at u v n p s
-unfolding Put_at
-put_here lay u v n p s e = subst (λ w. Put_at u w n p s) (sym e) (rw (eq-eqb u u refl)
+put_here : (lay : Layout) (u v : ℕ) (n : Bool) (p : UnitPut) (s : Stick) → v ≡ u → PutAt u v n p s
+unfolding PutAt
+put_here lay u v n p s e = subst (λ w. PutAt u w n p s) (sym e) (rw (eq-eqb u u refl)
     (⊎_elim
     (λ a. rw a (put_fair (correct n (unit_at u s) p) n (unit_at u s).standing p (unit_at u s) refl))
     (λ a. rw a (to_impersonal _ _ (unit_at u s).standing))
     (alter_same s.units u (λ x. (turned n p x).after) new_unit)))
 
-put_there : (lay : Layout) (u v : ℕ) (n : Bool) (p : UnitPut) (s : Stick) → (v ≡ u → ⊥) → Put_at u v n p s
-unfolding Put_at
+put_there : (lay : Layout) (u v : ℕ) (n : Bool) (p : UnitPut) (s : Stick) → (v ≡ u → ⊥) → PutAt u v n p s
+unfolding PutAt
 put_there lay u v n p s ne = rw (ne_eqb v u ne, alter_other s.units v u (λ x. (turned n p x).after) new_unit ne) (same (unit_at u s).standing)
 
 put_to_fair : (lay : Layout) (u : ℕ) (f : Option ℕ) (n : Bool) (p : UnitPut) (s : Stick) →
     Fair (is_unit f u && opens p && eqb (put_to_unit f n p s).code 0) (is_unit f u && closes_unit p && eqb (put_to_unit f n p s).code 0) (unit_at u s).standing (unit_at u (put_to_unit f n p s).next).standing
-unfolding Put_at
+unfolding PutAt
 put_to_fair lay u option.None n p s = same (unit_at u s).standing
 put_to_fair lay u (option.Some v) n p s = ⊎_elim (put_here lay u v n p s) (put_there lay u v n p s) (cases_eq v u)
 

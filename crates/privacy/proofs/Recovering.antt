@@ -111,24 +111,24 @@ put_onto ok c (recovering w d) (erase (option.Some q)) x e = rw e (same c (recov
 put_onto ok c (recovering w d) forget x e = rw e (same c (recovering w d))
 put_onto ok c (recovering w d) lock_again x e = rw e (same c (recovering w d))
 
-Put_at : ℕ → ℕ → ℕ → Bool → UnitPut → Stick → Type 0
-Put_at c u v n p s = Onto (eqb v u && forgets p && eqb (turned n p (unit_at v s)).code 0) false c (unit_at u s).standing (get_or (alter v (λ x. (turned n p x).after) s.units) u new_unit).standing
+PutAt : ℕ → ℕ → ℕ → Bool → UnitPut → Stick → Type 0
+PutAt c u v n p s = Onto (eqb v u && forgets p && eqb (turned n p (unit_at v s)).code 0) false c (unit_at u s).standing (get_or (alter v (λ x. (turned n p x).after) s.units) u new_unit).standing
 
-put_here : (c u v : ℕ) (n : Bool) (p : UnitPut) (s : Stick) → v ≡ u → Put_at c u v n p s
-unfolding Put_at
-put_here c u v n p s e = subst (λ w. Put_at c u w n p s) (sym e) (rw (eq-eqb u u refl)
+put_here : (c u v : ℕ) (n : Bool) (p : UnitPut) (s : Stick) → v ≡ u → PutAt c u v n p s
+unfolding PutAt
+put_here c u v n p s e = subst (λ w. PutAt c u w n p s) (sym e) (rw (eq-eqb u u refl)
     (⊎_elim
     (λ a. rw a (put_onto (correct n (unit_at u s) p) c (unit_at u s).standing p (unit_at u s) refl))
     (λ a. rw a (not_so refl))
     (alter_same s.units u (λ x. (turned n p x).after) new_unit)))
 
-put_there : (c u v : ℕ) (n : Bool) (p : UnitPut) (s : Stick) → (v ≡ u → ⊥) → Put_at c u v n p s
-unfolding Put_at
+put_there : (c u v : ℕ) (n : Bool) (p : UnitPut) (s : Stick) → (v ≡ u → ⊥) → PutAt c u v n p s
+unfolding PutAt
 put_there c u v n p s ne = rw (ne_eqb v u ne, alter_other s.units v u (λ x. (turned n p x).after) new_unit ne) (same c (unit_at u s).standing)
 
 unit_onto : (c u : ℕ) (f : Option ℕ) (n : Bool) (p : Put) (k : ℕ) (ds : List ℕ) (s : Stick) →
     Onto (is_unit f u && forgetting p && eqb (put_to_unit f n (sized p k ds) s).code 0) false c (unit_at u s).standing (unit_at u (put_to_unit f n (sized p k ds) s).next).standing
-unfolding Put_at
+unfolding PutAt
 unit_onto c u option.None n p k ds s = same c (unit_at u s).standing
 unit_onto c u (option.Some v) n p k ds s =
     subst (λ a. Onto a false c (unit_at u s).standing (unit_at u (put_to_unit (option.Some v) n (sized p k ds) s).next).standing) (kinds (eqb v u))

@@ -1,6 +1,6 @@
 -- The line that is written for an event says that event.
 use Rattle.std.proofs.Common.{◌≡◌, ℕ, ◌+◌, ◌*◌, ◌/◌, ◌%◌, ◌<◌, List, [], ◌∷◌, ◌++◌, length, Ok, sym, refl, ap, ◌∙◌, arith}
-use Rattle.std.specs.List.{AllByRecursion as All}
+use Rattle.std.specs.List.{AllByRecursion}
 use Rattle.std.proofs.lemmas.List.{append-nil}
 use Rattle.std.proofs.lemmas.Bool.Decides.{nat_tests}
 use Rattle.script.specs.Hexadecimal.{digit_char, hex_text}
@@ -13,7 +13,7 @@ use Rattle.script.proofs.Blanks.{words_parted, words_whole}
 digit_dark : (d : ℕ) → digit_char d ≡ 0x20 → ⊥
 digit_dark d e = grind (arith, nat_tests)
 
-hex_dark : (bs : List ℕ) → All (λ c. c ≡ 0x20 → ⊥) (hex_text bs)
+hex_dark : (bs : List ℕ) → AllByRecursion (λ c. c ≡ 0x20 → ⊥) (hex_text bs)
 hex_dark [] = tt
 hex_dark (b ∷ bs) = (digit_dark (b / 16), (digit_dark (b % 16), hex_dark bs))
 

@@ -8,7 +8,7 @@ use Rattle.script.specs.declared.error.LineError.TheVariants.{UnknownLetter, Mis
 use Rattle.script.specs.declared.event.Event.{Event}
 use Rattle.script.specs.declared.event.Event.TheVariants.{Control, Bulk, Work, Clock, BusReset, BusSuspend, BusResume, PowerCycle}
 use Rattle.script.specs.declared.line.Line.{Line}
-use Rattle.script.specs.declared.line.Line.TheVariants.{Blank, Event as Event_line}
+use Rattle.script.specs.declared.line.Line.TheVariants.{Blank, Event as EventLine}
 
 -- an event with its bytes as lists
 pub data Happening : Type 0 where
@@ -37,7 +37,7 @@ happening PowerCycle = power_cycle
 
 abbrev pub said : Line → Said
 said Blank = blank
-said (Event_line e) = event (happening e)
+said (EventLine e) = event (happening e)
 
 -- the first mistake ends it
 abbrev pub and_then : {X Y : Type 0} → Result X LineError → (X → Result Y LineError) → Result Y LineError

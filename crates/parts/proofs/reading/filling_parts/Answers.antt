@@ -1,5 +1,5 @@
 use Rattle.std.proofs.Common.{◌≡◌, ℕ, ◌-◌, ◌≤◌, true, false, length, take, refl, subst, arith}
-use Rattle.std.specs.List.{AllByRecursion as All}
+use Rattle.std.specs.List.{AllByRecursion}
 use Rattle.model.specs.Extents.{Fitting}
 use Rattle.model.specs.Parts.{part_start, part_length, parts_end}
 use Rattle.parts.proofs.Ends.{ends_within, fill_told}
@@ -18,7 +18,7 @@ returns-then-do_fill c =
     let end = length c.args.data.now in
     record {
       value = fill_told c.args.count 3 (c.args.count - 0) c.args.data.now parts true c.requires width c.cut_parts-parts.ensures.value c.if-do_fill.ensures.value;
-      inside = subst (λ (n : ℕ). All (Fitting part_start part_length end) (take n parts)) width (c.if-do_fill.ensures.inside refl);
+      inside = subst (λ (n : ℕ). AllByRecursion (Fitting part_start part_length end) (take n parts)) width (c.if-do_fill.ensures.inside refl);
     }
 
 pub returns-else-do_fill : goal.returns-else-do_fill
