@@ -9,6 +9,7 @@ use script::line::{Line, read_line};
 use script::record::record_line;
 use std::alloc::{AllocError, Global};
 use std::io::{BufRead, BufReader, Write};
+use std::process::ExitCode;
 use stick::stick::Running;
 use stick::stick::power::start;
 use straight::Straight;
@@ -85,7 +86,7 @@ fn serve(
     Ok(stick)
 }
 
-fn main(rt: HostRuntime) -> anyhow::Result<()> {
+fn main(rt: HostRuntime) -> anyhow::Result<ExitCode> {
     let heap = rt.alloc();
     let mut stick = fitted_stick(heap)?;
     let mut number = 0u64;
@@ -96,9 +97,9 @@ fn main(rt: HostRuntime) -> anyhow::Result<()> {
             Ok(next) => stick = next,
             Err(error) => {
                 eprintln!(rt; "line {number}: {error}")?;
-                return Err(error);
+                return Ok(ExitCode::FAILURE);
             }
         }
     }
-    Ok(())
+    Ok(ExitCode::SUCCESS)
 }

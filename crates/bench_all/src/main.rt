@@ -14,6 +14,7 @@ use record::turn::turn_line;
 use std::alloc::{AllocError, Global};
 use std::env;
 use std::io::{BufRead, BufReader, Write};
+use std::process::ExitCode;
 use stick::stick::Running;
 use stick::stick::power::start;
 use trial::run::take_turn;
@@ -52,8 +53,8 @@ fn run<M: Medium + Drop>(rt: &HostRuntime, stick: Running<M>) -> anyhow::Result<
         match serve(rt, stick, line.as_bytes()) {
             Ok(next) => stick = next,
             Err(error) => {
-                eprintln!(rt; "line {number}: {error}")?;
-                return Err(error);
+                let message = format!(in rt.alloc(); "line {number}: {error}")?;
+                return Err(anyhow!(message));
             }
         }
     }
@@ -65,17 +66,11 @@ fn chosen_fit(rt: &HostRuntime) -> anyhow::Result<Fit> {
     let heap = rt.alloc();
     let words: Vec<String> = match env::args(rt) {
         Ok(words) => words.skip(1).collect(heap)?,
-        Err(error) => {
-            eprintln!(rt; "{error}\n{USAGE}")?;
-            return Err(error.into());
-        }
+        Err(error) => return Err(anyhow!(format!(in heap; "{error}\n{USAGE}")?)),
     };
     match read_options(heap, words.as_slice()) {
         Ok(fit) => Ok(fit),
-        Err(mistake) => {
-            eprintln!(rt; "{mistake}\n{USAGE}")?;
-            Err(anyhow!("a command line that is none of the bench's"))
-        }
+        Err(mistake) => Err(anyhow!(format!(in heap; "{mistake}\n{USAGE}")?)),
     }
 }
 
@@ -106,15 +101,25 @@ fn run_fitted(rt: &HostRuntime, fit: Fit, memory: Vec<u8>) -> anyhow::Result<()>
     }
 }
 
-fn main(rt: HostRuntime) -> anyhow::Result<()> {
-    let fit = chosen_fit(&rt)?;
-    match inspected_memory(rt.alloc(), &fit)? {
-        Ok(memory) => run_fitted(&rt, fit, memory),
+// The stick that the command line says, powered up, and the script on it.
+fn serve_script(rt: &HostRuntime) -> anyhow::Result<()> {
+    let heap = rt.alloc();
+    let fit = chosen_fit(rt)?;
+    match inspected_memory(heap, &fit)? {
+        Ok(memory) => run_fitted(rt, fit, memory),
         Err(refusal) => {
             let number = refusal.number();
             let reason = reason(refusal);
-            eprintln!(rt; "refused {number}: {reason}")?;
-            Err(anyhow!("a stick that inspection refuses"))
+            Err(anyhow!(format!(in heap; "refused {number}: {reason}")?))
         }
     }
+}
+
+// Every mistake is told on standard error, in its own words alone.
+fn main(rt: HostRuntime) -> anyhow::Result<ExitCode> {
+    if let Err(error) = serve_script(&rt) {
+        eprintln!(rt; "{error}")?;
+        return Ok(ExitCode::FAILURE);
+    }
+    Ok(ExitCode::SUCCESS)
 }

@@ -15,6 +15,7 @@ use record::buffer::handed;
 use record::turn::turn_line;
 use std::alloc::{AllocError, Global};
 use std::io::{BufRead, BufReader, Write};
+use std::process::ExitCode;
 use std::{env, fs};
 use trial::side_by_side::side_by_side;
 use trial::turn::{NOTHING, Turn};
@@ -63,17 +64,14 @@ fn read_script(rt: &HostRuntime, path: &str) -> anyhow::Result<Script> {
     let mut number = 0u64;
     let file = match fs::open(rt, path) {
         Ok(file) => file,
-        Err(error) => {
-            eprintln!(rt; "{path}: {error}")?;
-            return Err(error.into());
-        }
+        Err(error) => return Err(anyhow!(format!(in heap; "{path}: {error}")?)),
     };
     for line in BufReader::new(heap, file)?.lines(heap) {
         number = number.saturating_add(1);
         let line = line?;
         if let Err(error) = add_line(heap, &mut script, line.as_bytes(), number) {
-            eprintln!(rt; "{path}, line {number}: {error}")?;
-            return Err(error);
+            let message = format!(in heap; "{path}, line {number}: {error}")?;
+            return Err(anyhow!(message));
         }
     }
     Ok(script)
@@ -165,12 +163,10 @@ fn run<M: Medium + Drop, N: Medium + Drop>(
 
 // The options of one stick, or the usage on standard error.
 fn chosen_fit(rt: &HostRuntime, words: &[String]) -> anyhow::Result<Fit> {
-    match read_options(rt.alloc(), words) {
+    let heap = rt.alloc();
+    match read_options(heap, words) {
         Ok(fit) => Ok(fit),
-        Err(mistake) => {
-            eprintln!(rt; "{mistake}\n{USAGE}")?;
-            Err(anyhow!("a command line that is none of twins'"))
-        }
+        Err(mistake) => Err(anyhow!(format!(in heap; "{mistake}\n{USAGE}")?)),
     }
 }
 
@@ -189,8 +185,7 @@ fn inspected_memory(rt: &HostRuntime, fit: &Fit) -> anyhow::Result<Vec<u8>> {
     };
     let number = refusal.number();
     let reason = reason(refusal);
-    eprintln!(rt; "refused {number}: {reason}")?;
-    Err(anyhow!("a stick that inspection refuses"))
+    Err(anyhow!(format!(in heap; "refused {number}: {reason}")?))
 }
 
 // The second stick is fitted, and both run.
@@ -262,19 +257,19 @@ fn chosen_fits(rt: &HostRuntime, words: &[String]) -> anyhow::Result<(Fit, Fit)>
     Ok((first, second))
 }
 
-fn main(rt: HostRuntime) -> anyhow::Result<()> {
+// The sticks and scripts that the command line says, side by side.
+fn run_twins(rt: &HostRuntime) -> anyhow::Result<()> {
     let heap = rt.alloc();
-    let words: Vec<String> = env::args(&rt)?.skip(1).collect(heap)?;
+    let words: Vec<String> = env::args(rt)?.skip(1).collect(heap)?;
     let [first, second, common, rest @ ..] = words.as_slice() else {
-        eprintln!(rt; "{USAGE}")?;
-        return Err(anyhow!("a command line that is none of twins'"));
+        return Err(anyhow!(USAGE));
     };
-    let (first_fit, second_fit) = chosen_fits(&rt, rest)?;
-    let memory = inspected_memory(&rt, &first_fit)?;
-    let setup = read_script(&rt, first.as_str())?;
-    let second_setup = read_script(&rt, second.as_str())?;
-    let script = read_script(&rt, common.as_str())?;
-    let second_script = read_script(&rt, common.as_str())?;
+    let (first_fit, second_fit) = chosen_fits(rt, rest)?;
+    let memory = inspected_memory(rt, &first_fit)?;
+    let setup = read_script(rt, first.as_str())?;
+    let second_setup = read_script(rt, second.as_str())?;
+    let script = read_script(rt, common.as_str())?;
+    let second_script = read_script(rt, common.as_str())?;
     let Fit {
         layout,
         make,
@@ -290,7 +285,7 @@ fn main(rt: HostRuntime) -> anyhow::Result<()> {
                 setup,
                 common: script,
             };
-            run_second(&rt, side, second_fit, second_setup, second_script)
+            run_second(rt, side, second_fit, second_setup, second_script)
         }
         Make::Turning => {
             let medium = turning::fit(memory, runs);
@@ -300,7 +295,16 @@ fn main(rt: HostRuntime) -> anyhow::Result<()> {
                 setup,
                 common: script,
             };
-            run_second(&rt, side, second_fit, second_setup, second_script)
+            run_second(rt, side, second_fit, second_setup, second_script)
         }
     }
+}
+
+// Every mistake is told on standard error, in its own words alone.
+fn main(rt: HostRuntime) -> anyhow::Result<ExitCode> {
+    if let Err(error) = run_twins(&rt) {
+        eprintln!(rt; "{error}")?;
+        return Ok(ExitCode::FAILURE);
+    }
+    Ok(ExitCode::SUCCESS)
 }
