@@ -53,8 +53,8 @@ fn run<M: Medium + Drop>(rt: &HostRuntime, stick: Running<M>) -> anyhow::Result<
         match serve(rt, stick, line.as_bytes()) {
             Ok(next) => stick = next,
             Err(error) => {
-                let message = format!(in rt.alloc(); "line {number}: {error}")?;
-                return Err(anyhow!(message));
+                eprintln!(rt; "line {number}: {error}")?;
+                return Err(error);
             }
         }
     }
@@ -66,11 +66,17 @@ fn chosen_fit(rt: &HostRuntime) -> anyhow::Result<Fit> {
     let heap = rt.alloc();
     let words: Vec<String> = match env::args(rt) {
         Ok(words) => words.skip(1).collect(heap)?,
-        Err(error) => return Err(anyhow!(format!(in heap; "{error}\n{USAGE}")?)),
+        Err(error) => {
+            eprintln!(rt; "{error}\n{USAGE}")?;
+            return Err(error.into());
+        }
     };
     match read_options(heap, words.as_slice()) {
         Ok(fit) => Ok(fit),
-        Err(mistake) => Err(anyhow!(format!(in heap; "{mistake}\n{USAGE}")?)),
+        Err(mistake) => {
+            eprintln!(rt; "{mistake}\n{USAGE}")?;
+            Err(anyhow!("a command line that is none of the bench's"))
+        }
     }
 }
 
@@ -103,23 +109,22 @@ fn run_fitted(rt: &HostRuntime, fit: Fit, memory: Vec<u8>) -> anyhow::Result<()>
 
 // The stick that the command line says, powered up, and the script on it.
 fn serve_script(rt: &HostRuntime) -> anyhow::Result<()> {
-    let heap = rt.alloc();
     let fit = chosen_fit(rt)?;
-    match inspected_memory(heap, &fit)? {
+    match inspected_memory(rt.alloc(), &fit)? {
         Ok(memory) => run_fitted(rt, fit, memory),
         Err(refusal) => {
             let number = refusal.number();
             let reason = reason(refusal);
-            Err(anyhow!(format!(in heap; "refused {number}: {reason}")?))
+            eprintln!(rt; "refused {number}: {reason}")?;
+            Err(anyhow!("a stick that inspection refuses"))
         }
     }
 }
 
-// Every mistake is told on standard error, in its own words alone.
-fn main(rt: HostRuntime) -> anyhow::Result<ExitCode> {
-    if let Err(error) = serve_script(&rt) {
-        eprintln!(rt; "{error}")?;
-        return Ok(ExitCode::FAILURE);
+// What goes wrong is told on standard error where it is found.
+fn main(rt: HostRuntime) -> ExitCode {
+    match serve_script(&rt) {
+        Ok(()) => ExitCode::SUCCESS,
+        Err(_) => ExitCode::FAILURE,
     }
-    Ok(ExitCode::SUCCESS)
 }

@@ -64,14 +64,17 @@ fn read_script(rt: &HostRuntime, path: &str) -> anyhow::Result<Script> {
     let mut number = 0u64;
     let file = match fs::open(rt, path) {
         Ok(file) => file,
-        Err(error) => return Err(anyhow!(format!(in heap; "{path}: {error}")?)),
+        Err(error) => {
+            eprintln!(rt; "{path}: {error}")?;
+            return Err(error.into());
+        }
     };
     for line in BufReader::new(heap, file)?.lines(heap) {
         number = number.saturating_add(1);
         let line = line?;
         if let Err(error) = add_line(heap, &mut script, line.as_bytes(), number) {
-            let message = format!(in heap; "{path}, line {number}: {error}")?;
-            return Err(anyhow!(message));
+            eprintln!(rt; "{path}, line {number}: {error}")?;
+            return Err(error);
         }
     }
     Ok(script)
@@ -163,10 +166,12 @@ fn run<M: Medium + Drop, N: Medium + Drop>(
 
 // The options of one stick, or the usage on standard error.
 fn chosen_fit(rt: &HostRuntime, words: &[String]) -> anyhow::Result<Fit> {
-    let heap = rt.alloc();
-    match read_options(heap, words) {
+    match read_options(rt.alloc(), words) {
         Ok(fit) => Ok(fit),
-        Err(mistake) => Err(anyhow!(format!(in heap; "{mistake}\n{USAGE}")?)),
+        Err(mistake) => {
+            eprintln!(rt; "{mistake}\n{USAGE}")?;
+            Err(anyhow!("a command line that is none of twins'"))
+        }
     }
 }
 
@@ -185,7 +190,8 @@ fn inspected_memory(rt: &HostRuntime, fit: &Fit) -> anyhow::Result<Vec<u8>> {
     };
     let number = refusal.number();
     let reason = reason(refusal);
-    Err(anyhow!(format!(in heap; "refused {number}: {reason}")?))
+    eprintln!(rt; "refused {number}: {reason}")?;
+    Err(anyhow!("a stick that inspection refuses"))
 }
 
 // The second stick is fitted, and both run.
@@ -262,7 +268,8 @@ fn run_twins(rt: &HostRuntime) -> anyhow::Result<()> {
     let heap = rt.alloc();
     let words: Vec<String> = env::args(rt)?.skip(1).collect(heap)?;
     let [first, second, common, rest @ ..] = words.as_slice() else {
-        return Err(anyhow!(USAGE));
+        eprintln!(rt; "{USAGE}")?;
+        return Err(anyhow!("a command line that is none of twins'"));
     };
     let (first_fit, second_fit) = chosen_fits(rt, rest)?;
     let memory = inspected_memory(rt, &first_fit)?;
@@ -300,11 +307,10 @@ fn run_twins(rt: &HostRuntime) -> anyhow::Result<()> {
     }
 }
 
-// Every mistake is told on standard error, in its own words alone.
-fn main(rt: HostRuntime) -> anyhow::Result<ExitCode> {
-    if let Err(error) = run_twins(&rt) {
-        eprintln!(rt; "{error}")?;
-        return Ok(ExitCode::FAILURE);
+// What goes wrong is told on standard error where it is found.
+fn main(rt: HostRuntime) -> ExitCode {
+    match run_twins(&rt) {
+        Ok(()) => ExitCode::SUCCESS,
+        Err(_) => ExitCode::FAILURE,
     }
-    Ok(ExitCode::SUCCESS)
 }
