@@ -1,7 +1,7 @@
 // What stands before a command's data: why it fails, how many bytes it means to move, and whether the host means the same.
 // The first check that fails decides.
 ghost use Rattle.std.specs.Prelude.{◌≡◌};
-ghost use Rattle.model.specs.Commands.{needs_open, out_of_range, wrong as wrong_with, failure as failure_of, meant as meant_by, goes as GoesBy, is_other, mismatched};
+ghost use Rattle.model.specs.Commands.{needs_open, out_of_range, wrong as wrong_with, failure as failure_of, meant as meant_by, goes as goes_by, is_other, mismatched};
 
 use crate::capacity::{BLOCK_SIZE, CAPACITY_LENGTH};
 use crate::inquiry::INQUIRY_LENGTH;
@@ -75,7 +75,7 @@ fn meant(command: Command) -> u32
 
 // Which way a command's data go.
 fn goes(command: Command) -> Direction
-    ensures { result ≡ GoesBy command }
+    ensures { result ≡ goes_by command }
 {
     match command {
         Command::Write { .. } => Direction::Out,
