@@ -1,3 +1,2 @@
-pub mod Answers
 pub mod Standings
 pub mod Told

@@ -1,14 +1,57 @@
 // A whole answer: the bytes that a control transfer sends to the host, before they go into its buffer.
-// The type alone, so that definitions may name it.
-ghost use Rattle.std.specs.Prelude.{◌≤◌};
+// Callers see an answer as the list of its bytes.
+ghost use Rattle.std.specs.Prelude.{◌≡◌, ◌+◌, ◌≤◌, [], ◌++◌, length, take};
+
+use arrayvec::ArrayVec;
+use std::marker::Model;
 
 // The longest answer of all is Lock Data with a hint of 100 bytes.
 pub const LONGEST_ANSWER: usize = 119;
 
-// The first `len` bytes are the answer.
-#[derive(Clone, Copy)]
+#[derive(Clone, Drop)]
 pub struct Answer {
-    pub(crate) bytes: [u8; 119],
-    pub(crate) len: usize,
-    ghost within: { len ≤ 119 },
+    bytes: ArrayVec<u8, LONGEST_ANSWER>,
+}
+
+impl Model for Answer {
+    ghost use Rattle.std.specs.Prelude.{ℕ, List};
+
+    ghost Value = { List ℕ };
+
+    ghost view = { λ a. a.bytes.items };
+}
+
+impl Answer {
+    // No bytes yet.
+    pub(crate) fn new() -> Answer
+        ensures { result ≡ [] }
+    {
+        Answer {
+            bytes: ArrayVec::new(),
+        }
+    }
+
+    // Puts bytes behind those that are there.
+    pub(crate) fn add(&mut self, bytes: &[u8])
+        requires { length self.old + length bytes.now ≤ LONGEST_ANSWER }
+        ensures { self.new ≡ self.old ++ bytes.now }
+    {
+        self.bytes.try_extend_from_slice(bytes).unwrap();
+    }
+
+    // The front of this answer, no more than was wanted.
+    pub fn cut(mut self, wanted: u16) -> Answer
+        ensures { result ≡ take wanted self }
+    {
+        self.bytes.truncate(usize::from(wanted));
+        self
+    }
+
+    // The answer's bytes.
+    pub fn as_slice(&self) -> &[u8]
+        ensures bytes { result.now ≡ self.now }
+        ensures bound { length result.now ≤ LONGEST_ANSWER }
+    {
+        self.bytes.as_slice()
+    }
 }

@@ -6,38 +6,27 @@ mod tests {
     use interfaces::descriptor::device_descriptor;
     use interfaces::table::Interfaces;
     use layout::table::Layout;
-    use medium::Medium;
+    use medium::{Fitted, Medium};
     use model::ids::{Ids, Interface};
     use model::layout::BadRun;
-    use model::refusal::{Fault, Refusal};
+    use model::refusal::{Fault, Refusal, number_of};
     use std::alloc::{AllocError, Global};
     use std::test::Fail;
     use stick::stick::Running;
     use stick::stick::power::start;
     use straight::Straight;
-
-    // The number that an inspection gives.
-    fn judged(res: Result<(), Refusal>) -> u8 {
-        match res {
-            Ok(()) => 0,
-            Err(refusal) => refusal.number(),
-        }
-    }
+    use turning::Turning;
 
     // The number that a medium's call gives.
     fn moved(res: Result<(), Fault>) -> u8 {
-        match res {
-            Ok(()) => 0,
-            Err(Fault::Outside) => 3,
-            Err(Fault::Bad) => 4,
-        }
+        number_of(res.map_err(Refusal::from))
     }
 
     // The number that a transfer gives, and how many bytes it answers.
     fn told(res: Result<usize, Refusal>) -> (u8, usize) {
         match res {
             Ok(count) => (0, count),
-            Err(refusal) => (refusal.number(), 0),
+            Err(refusal) => (u8::from(refusal), 0),
         }
     }
 
@@ -48,8 +37,11 @@ mod tests {
     // What the two makes say of 16 blocks with these bad runs.
     fn sixteen(heap: Global, runs: &[BadRun]) -> Result<(u8, u8), AllocError> {
         let memory = vec![in heap; 0u8; 8704]?;
-        let straight = judged(straight::inspect(&memory.as_slice()[0..8192], runs));
-        Ok((straight, judged(turning::inspect(memory.as_slice(), runs))))
+        let straight = number_of(Straight::inspect(&memory.as_slice()[0..8192], runs));
+        Ok((
+            straight,
+            number_of(Turning::inspect(memory.as_slice(), runs)),
+        ))
     }
 
     // What inspection says of layout bytes with these counts, of interfaces and then of their units, and `units` places of one block each.
@@ -59,13 +51,13 @@ mod tests {
         for start in 0..units {
             bytes.extend_from_slice(&[start, 0, 0, 0, 1, 0, 0, 0])?;
         }
-        Ok(judged(layout::read::inspect(bytes.as_slice(), 64)))
+        Ok(number_of(layout::read::inspect(bytes.as_slice(), 64)))
     }
 
     // A stick on 64 straight good blocks of zeros.
     fn stick(heap: Global, layout: &[u8]) -> Result<Running<Straight>, AllocError> {
         let memory = vec![in heap; 0u8; 32768]?;
-        Ok(start(straight::fit(memory, Vec::new(heap)), layout))
+        Ok(start(Straight::fit(memory, Vec::new(heap)), layout))
     }
 
     #[test]
@@ -83,11 +75,11 @@ mod tests {
         for (bytes, as_straight, as_turning) in cases.iter() {
             let memory = vec![in rt.alloc(); 0u8; *bytes]?;
             assert_eq!(rt;
-                judged(straight::inspect(memory.as_slice(), &[])),
+                number_of(Straight::inspect(memory.as_slice(), &[])),
                 *as_straight
             );
             assert_eq!(rt;
-                judged(turning::inspect(memory.as_slice(), &[])),
+                number_of(Turning::inspect(memory.as_slice(), &[])),
                 *as_turning
             );
         }
@@ -132,12 +124,12 @@ mod tests {
     #[test]
     fn layout_bytes(rt: HostRuntime) -> Result<(), Fail> {
         let bytes = [0, 0, 0, 0, 0, 0, 1, 1, 0, 0, 0, 0, 40, 0, 0, 0, 0];
-        assert_eq!(rt; judged(layout::read::inspect(&bytes[0..16], 64)), 0);
-        assert_eq!(rt; judged(layout::read::inspect(&bytes[0..16], 40)), 0);
-        assert_eq!(rt; judged(layout::read::inspect(&bytes[0..16], 39)), 1);
-        assert_eq!(rt; judged(layout::read::inspect(&bytes[0..15], 64)), 1);
-        assert_eq!(rt; judged(layout::read::inspect(&bytes, 64)), 1);
-        assert_eq!(rt; judged(layout::read::inspect(&bytes[0..6], 64)), 1);
+        assert_eq!(rt; number_of(layout::read::inspect(&bytes[0..16], 64)), 0);
+        assert_eq!(rt; number_of(layout::read::inspect(&bytes[0..16], 40)), 0);
+        assert_eq!(rt; number_of(layout::read::inspect(&bytes[0..16], 39)), 1);
+        assert_eq!(rt; number_of(layout::read::inspect(&bytes[0..15], 64)), 1);
+        assert_eq!(rt; number_of(layout::read::inspect(&bytes, 64)), 1);
+        assert_eq!(rt; number_of(layout::read::inspect(&bytes[0..6], 64)), 1);
         let bases = [
             (0x08, 0x00, 1),
             (0xF0, 0xFF, 0),
@@ -146,7 +138,7 @@ mod tests {
         ];
         for (low, high, number) in bases.iter() {
             let bytes = [0, 0, *low, *high, 0, 0, 1, 1, 0, 0, 0, 0, 40, 0, 0, 0];
-            assert_eq!(rt; judged(layout::read::inspect(&bytes, 64)), *number);
+            assert_eq!(rt; number_of(layout::read::inspect(&bytes, 64)), *number);
         }
         let heap = rt.alloc();
         assert_eq!(rt; counted(heap, &[4, 4, 4, 4, 4], 16)?, 0);
@@ -184,7 +176,7 @@ mod tests {
         let heap = rt.alloc();
         let mut runs = Vec::new(heap);
         runs.push(run(1, 1))?;
-        let mut medium = turning::fit(vec![in heap; 9u8; 2048]?, runs);
+        let mut medium = Turning::fit(vec![in heap; 9u8; 2048]?, runs);
         assert_eq!(rt; medium.blocks(), 3);
         assert_eq!(rt; moved(medium.write(0, &[1; 512])), 0);
         assert_eq!(rt; moved(medium.write(0, &[2; 512])), 0);
@@ -255,10 +247,10 @@ mod tests {
             ids: Ids::ScsiBbb,
             jammed: false,
         };
-        let interfaces = Interfaces {
-            list: [negotiable, plain, negotiable, negotiable],
-            count: 3,
-        };
+        let mut interfaces = Interfaces::new();
+        interfaces.push(negotiable);
+        interfaces.push(plain);
+        interfaces.push(negotiable);
         let device = device_descriptor(&Layout::fit(&bytes, 3), &interfaces);
         assert_eq!(rt;
             device,

@@ -1,11 +1,12 @@
 -- Blocks written one after another from a buffer, up to the first bad one.
-use Rattle.std.proofs.Common.{◌≡◌, ℕ, zero, suc, ◌+◌, ◌-◌, ◌*◌, ◌<◌, List, get_or, take, drop, Ok, sym, refl, ap, ◌∙◌, arith}
+use Rattle.std.proofs.Common.{◌≡◌, ℕ, zero, suc, ◌+◌, ◌-◌, ◌*◌, ◌<◌, true, List, length, get_or, take, drop, Ok, Result, is_err, sym, refl, ap, ◌∙◌, subst, arith}
 use Rattle.std.proofs.lemmas.List.{drop-drop}
 use Rattle.model.specs.Blocks.{Block, bad, good, answer, written}
 use Rattle.model.specs.Commands.{one_more, good_run, stored}
-use Rattle.medium.proofs.Calls.{way, good_from, other_kept}
+use Rattle.model.specs.declared.refusal.Fault.{Fault}
+use Rattle.medium.proofs.Calls.{way, good_from, other_kept, refused_write}
 use Rattle.commands.specs.Transfers.{kept}
-use Rattle.commands.proofs.Loading.{run_good, run_bad}
+use Rattle.commands.proofs.Loading.{err_of, bad_seen, run_good, run_bad}
 
 -- an accepted write goes to a good block
 pub good_there : (m : List Block) (b n : ℕ) → answer m b n ≡ Ok tt → (bs : List ℕ) × (get_or m b bad ≡ good bs)
@@ -67,3 +68,17 @@ module _ (m0 : List Block) (b n : ℕ) (ds : List ℕ) where
         omega (arith, a.moved, zeros),
         sym (ap (λ x. stored x (b + i) (drop (512 * i) ds) m) zeros) ∙ a.blocks,
       )
+
+-- the next call, which writes `part`: refused, the transfer ends there; accepted, it goes on
+module _ (m0 : List Block) (b n : ℕ) (ds : List ℕ) (m : List Block) (i : ℕ) (part : List ℕ) (r : Result (Unit {0}) Fault)
+    (lt : i < n) (long : length part ≡ 512) (is : r ≡ answer m (b + i) (length part)) (a : Along m0 b n ds m i) where
+  pub write_stops : is_err r ≡ true → (i ≡ good_run n b m0) × (written m (b + i) part ≡ kept n b ds m0)
+  write_stops err =
+      let f = err_of r err in
+      let e = along_bad m0 b n ds m i lt (bad_seen m (b + i) (length part) f.0 long (sym is ∙ f.1)) a in
+      (e.0, refused_write m (b + i) part f.0 (sym is ∙ f.1) ∙ e.1)
+
+  pub write_goes_on : r ≡ Ok tt → part ≡ take 512 (drop (512 * i) ds) → Along m0 b n ds (written m (b + i) part) (i + 1)
+  write_goes_on ok cut =
+      let g = good_there m (b + i) (length part) (sym is ∙ ok) in
+      subst (λ (p : List ℕ). Along m0 b n ds (written m (b + i) p) (i + 1)) (sym cut) (along_more m0 b n ds m g.0 i lt g.1 a)

@@ -1,19 +1,20 @@
 -- Blocks read one after another into a buffer, up to the first bad one.
-use Rattle.std.proofs.Common.{◌≡◌, ℕ, suc, ◌+◌, ◌-◌, ◌*◌, ◌<◌, ◌≤◌, List, [], ◌++◌, length, get_or, take, drop, Ok, Err, Result, sym, refl, ap, ◌∙◌, ⊎_elim, arith}
+use Rattle.std.proofs.Common.{◌≡◌, ℕ, suc, ◌+◌, ◌-◌, ◌*◌, ◌<◌, ◌≤◌, true, List, [], ◌++◌, length, get_or, take, drop, Ok, Err, Result, is_err, sym, refl, ap, ◌∙◌, ⊎_elim, arith}
 use borrow.Rule.Slice.PartMut.{put_mid}
 use Rattle.std.proofs.lemmas.List.{append_assoc, drop-drop, take-append-drop, length-append, length-take, length-drop, get_or_past}
 use Rattle.std.proofs.lemmas.Slice.{take-put_mid, drop-put_mid}
 use Rattle.model.specs.Blocks.{Block, bad, good, bytes_or, answer, filled}
 use Rattle.model.specs.Commands.{one_more, good_run, bytes_from}
 use Rattle.model.specs.declared.refusal.Fault.{Fault}
-use Rattle.medium.proofs.Calls.{Way, outside, at_bad, at_good, way, good_from, read_good}
+use Rattle.medium.proofs.Calls.{Way, outside, at_bad, at_good, never_both, way, good_from, read_good, refused_read}
 use Rattle.commands.specs.Transfers.{loaded}
+
+pub err_of : (r : Result (Unit {0}) Fault) → is_err r ≡ true → (f : Fault) × (r ≡ Err f)
+err_of (Ok u) e = absurd (cc)
+err_of (Err f) e = (f, refl)
 
 -- what a call for a block showed
 module _ (m : List Block) (b : ℕ) where
-  never_both : (r : Result (Unit {0}) Fault) (f : Fault) → r ≡ Ok tt → r ≡ Err f → ⊥
-  never_both r f p q = let z : ◌≡◌ {A = ℕ} 0 1 = cc in omega arith
-
   bad_by : (n : ℕ) (f : Fault) → Way m b n → n ≡ 512 → answer m b n ≡ Err f → get_or m b bad ≡ bad
   bad_by n f (outside r h) l e = ⊎_elim (λ (past : length m ≤ b). get_or_past m b bad past) (λ (ne : n ≡ 512 → ⊥). absurd (ne l)) h
   bad_by n f (at_bad r h k is) l e = is
@@ -111,3 +112,15 @@ module _ (m : List Block) (b n : ℕ) (buf0 : List ℕ) where
 pub putMid_back : (a w : ℕ) (xs ys : List ℕ) → ys ≡ take w (drop a xs) → put_mid a w xs ys ≡ xs
 putMid_back a w xs ys e =
     ap (λ y. take a xs ++ (y ++ drop w (drop a xs))) e ∙ ap (λ y. take a xs ++ y) (take-append-drop w (drop a xs)) ∙ take-append-drop a xs
+
+-- the next call, which reads into the buffer's next 512 bytes and leaves `out` there: refused, the transfer ends there; accepted, it goes on
+module _ (m : List Block) (b n : ℕ) (buf0 buf : List ℕ) (i : ℕ) (part out : List ℕ) (r : Result (Unit {0}) Fault)
+    (lt : i < n) (cut : part ≡ take 512 (drop (512 * i) buf)) (long : length part ≡ 512) (is : r ≡ answer m (b + i) (length part)) (full : out ≡ filled m (b + i) part) (a : Along m b n buf0 buf i) where
+  pub read_stops : is_err r ≡ true → (i ≡ good_run n b m) × (put_mid (512 * i) 512 buf out ≡ loaded n b m buf0)
+  read_stops err =
+      let f = err_of r err in
+      let e = along_bad m b n buf0 buf i lt (bad_seen m (b + i) (length part) f.0 long (sym is ∙ f.1)) a in
+      (e.0, putMid_back (512 * i) 512 buf out (full ∙ refused_read m (b + i) part f.0 (sym is ∙ f.1) ∙ cut) ∙ e.1)
+
+  pub read_goes_on : r ≡ Ok tt → 512 * n ≤ length buf0 → length out ≡ 512 → Along m b n buf0 (put_mid (512 * i) 512 buf out) (i + 1)
+  read_goes_on ok room lo = along_more m b n buf0 buf out i lt room lo (good_seen m (b + i) part out full (sym is ∙ ok)) a

@@ -1,8 +1,13 @@
 -- What transfers of blocks answer and leave.
-use Rattle.std.specs.Prelude.{ℕ, ◌*◌, List, ◌++◌, drop, Ok, Err, Result}
+use Rattle.std.specs.Prelude.{ℕ, ◌*◌, ◌≤◌, List, ◌++◌, length, drop, Ok, Err, Result}
 use Rattle.model.specs.Blocks.{Block}
 use Rattle.model.specs.Commands.{good_run, bytes_from, stored}
+use Rattle.commands.specs.declared.span.Span.{Span}
 use Rattle.commands.specs.declared.stops.Stopped.{Stopped}
+
+-- a buffer has room for all blocks of a span
+abbrev pub HasRoom : Span → List ℕ → Type 0
+HasRoom s buf = 512 * s.count ≤ length buf
 
 -- how many of count blocks moved
 abbrev pub moved_of : ℕ → Result (Unit {0}) Stopped → ℕ

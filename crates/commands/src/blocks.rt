@@ -1,81 +1,62 @@
 // A unit's blocks between a medium and a buffer, one 512-byte part after another.
 // The medium's fault goes on by `?` to the transfer, which adds how far it came.
-ghost use Rattle.std.specs.Prelude.{◌≡◌, ◌+◌, ◌*◌, ◌^◌, ◌<◌, ◌≤◌, length, IfErr};
+ghost use Rattle.std.specs.Prelude.{◌≡◌, ◌+◌, ◌<◌, length, IfErr};
 ghost use Rattle.model.specs.Blocks.{answer, filled, written};
 ghost use Rattle.model.specs.Commands.{good_run};
-ghost use Rattle.commands.specs.Transfers.{moved_of, loaded, kept};
+ghost use Rattle.commands.specs.Transfers.{HasRoom, moved_of, loaded, kept};
 
+use crate::span::Span;
 use crate::stops::Stopped;
-use medium::Medium;
+use medium::{Medium, PAGE};
 use model::refusal::Fault;
 
-const PAGE: usize = 512;
-
-// The block at an address of the unit that starts here.
-fn read_unit<M: Medium>(medium: &M, start: u32, address: u32, part: &mut [u8]) -> Result<(), Fault>
-    ensures answer { result ≡ answer (M.meaning medium.now) (start + address) (length part.old) }
-    ensures buffer { part.new ≡ filled (M.meaning medium.now) (start + address) part.old }
+// The block of the span so many blocks on.
+fn read_block<M: Medium>(medium: &M, span: Span, moved: u16, part: &mut [u8]) -> Result<(), Fault>
+    requires { moved < span.count }
+    ensures answer { result ≡ answer (M.meaning medium.now) (span.start + span.address + moved) (length part.old) }
+    ensures buffer { part.new ≡ filled (M.meaning medium.now) (span.start + span.address + moved) part.old }
 {
-    let Some(block) = start.checked_add(address) else {
-        return Err(Fault::Outside);
-    };
-    medium.read(block, part)?;
-    Ok(())
+    let block = span.block(moved)?;
+    medium.read(block, part)
 }
 
-fn write_unit<M: Medium>(medium: &mut M, start: u32, address: u32, part: &[u8]) -> Result<(), Fault>
-    ensures answer { result ≡ answer (M.meaning medium.old) (start + address) (length part.now) }
-    ensures after { M.meaning medium.new ≡ written (M.meaning medium.old) (start + address) part.now }
+// Not one function for both directions: a read changes the buffer alone and a write the medium alone, and their clauses say so.
+fn write_block<M: Medium>(medium: &mut M, span: Span, moved: u16, part: &[u8]) -> Result<(), Fault>
+    requires { moved < span.count }
+    ensures answer { result ≡ answer (M.meaning medium.old) (span.start + span.address + moved) (length part.now) }
+    ensures after { M.meaning medium.new ≡ written (M.meaning medium.old) (span.start + span.address + moved) part.now }
 {
-    let Some(block) = start.checked_add(address) else {
-        return Err(Fault::Outside);
-    };
-    medium.write(block, part)?;
-    Ok(())
+    let block = span.block(moved)?;
+    medium.write(block, part)
 }
 
-// Reads blocks of the unit, each into the buffer's next 512 bytes.
-pub fn read_blocks<M: Medium>(
-    medium: &M,
-    start: u32,
-    address: u32,
-    count: u32,
-    buffer: &mut [u8],
-) -> Result<(), Stopped>
-    requires { (512 * count ≤ length buffer.old) × (address + count < 2 ^ 32) }
-    ensures moved { moved_of count result ≡ good_run count (start + address) (M.meaning medium.now) }
-    ensures short { IfErr result (λ s. s.moved < count) }
-    ensures buffer { buffer.new ≡ loaded count (start + address) (M.meaning medium.now) buffer.old }
+// Reads the blocks of the span, each into the buffer's next 512 bytes.
+pub fn read_blocks<M: Medium>(medium: &M, span: Span, buffer: &mut [u8]) -> Result<(), Stopped>
+    requires { HasRoom span buffer.old }
+    ensures moved { moved_of span.count result ≡ good_run span.count (span.start + span.address) (M.meaning medium.now) }
+    ensures short { IfErr result (λ s. s.moved < span.count) }
+    ensures buffer { buffer.new ≡ loaded span.count (span.start + span.address) (M.meaning medium.now) buffer.old }
 {
-    for i in 0..count {
-        let at = PAGE * i as usize;
-        match read_unit(medium, start, address + i, &mut buffer[at..at + PAGE]) {
-            Ok(()) => {}
-            Err(fault) => return Err(Stopped { moved: i, fault }),
-        }
+    // By its place: of a buffer that `chunks_exact_mut` lent out, a proof knows the length afterwards, and no byte.
+    for moved in 0..span.count {
+        let at = PAGE * usize::from(moved);
+        read_block(medium, span, moved, &mut buffer[at..at + PAGE]).map_err(|fault| Stopped {
+            moved,
+            fault,
+        })?;
     }
     Ok(())
 }
 
-// Writes blocks of the unit, each from the buffer's next 512 bytes.
-pub fn write_blocks<M: Medium>(
-    medium: &mut M,
-    start: u32,
-    address: u32,
-    count: u32,
-    buffer: &[u8],
-) -> Result<(), Stopped>
-    requires { (512 * count ≤ length buffer.now) × (address + count < 2 ^ 32) }
-    ensures moved { moved_of count result ≡ good_run count (start + address) (M.meaning medium.old) }
-    ensures short { IfErr result (λ s. s.moved < count) }
-    ensures after { M.meaning medium.new ≡ kept count (start + address) buffer.now (M.meaning medium.old) }
+// Writes the blocks of the span, each from the buffer's next 512 bytes.
+pub fn write_blocks<M: Medium>(medium: &mut M, span: Span, buffer: &[u8]) -> Result<(), Stopped>
+    requires { HasRoom span buffer.now }
+    ensures moved { moved_of span.count result ≡ good_run span.count (span.start + span.address) (M.meaning medium.old) }
+    ensures short { IfErr result (λ s. s.moved < span.count) }
+    ensures after { M.meaning medium.new ≡ kept span.count (span.start + span.address) buffer.now (M.meaning medium.old) }
 {
-    for i in 0..count {
-        let at = PAGE * i as usize;
-        match write_unit(medium, start, address + i, &buffer[at..at + PAGE]) {
-            Ok(()) => {}
-            Err(fault) => return Err(Stopped { moved: i, fault }),
-        }
+    for (moved, part) in (0..span.count).zip(buffer.chunks_exact(PAGE)) {
+        write_block(medium, span, moved, part).map_err(|fault| Stopped { moved, fault })?;
     }
     Ok(())
 }

@@ -8,17 +8,27 @@ use crate::ended::Ended;
 use model::command::Status;
 use model::sense::Sense;
 
+// A command that ends with no data: nothing is answered, and nothing moved.
+pub fn without_data(status: Status, sense: Sense) -> Ended
+    ensures status { result.status ≡ status }
+    ensures answered { result.answered ≡ 0 }
+    ensures moved { result.moved ≡ 0 }
+    ensures sense { result.sense ≡ sense }
+{
+    Ended {
+        status,
+        answered: 0,
+        moved: 0,
+        sense,
+    }
+}
+
 // A command that fails before any data.
 pub fn fail(sense: Sense) -> Ended
     ensures ending { (ds : List ℕ) (m : List Block) → ending_of result ds m ≡ failed sense m }
     ensures bound { result.answered ≡ 0 }
 {
-    Ended {
-        status: Status::Failed,
-        answered: 0,
-        moved: 0,
-        sense,
-    }
+    without_data(Status::Failed, sense)
 }
 
 // The first bytes of an answer at the buffer's front, as many as the allocation length allows.
@@ -28,8 +38,8 @@ pub fn tell(bytes: &[u8], allocation: u16, buffer: &mut [u8]) -> Ended
     ensures bound { result.answered ≤ length buffer.new }
     ensures buffer { buffer.new ≡ front (take allocation bytes.now) buffer.old }
 {
-    let n = bytes.len().min(allocation as usize);
-    buffer[0..n].copy_from_slice(&bytes[0..n]);
+    let n = bytes.len().min(usize::from(allocation));
+    buffer[..n].copy_from_slice(&bytes[..n]);
     Ended {
         status: Status::Passed,
         answered: n,

@@ -7,4 +7,5 @@ mod disk;
 pub mod ended;
 mod endings;
 pub mod perform;
+mod span;
 mod stops;

@@ -5,17 +5,15 @@ ghost use Rattle.commands.specs.Endings.{carried_of, carried_out, ending_of, fro
 
 use crate::disk;
 use crate::ended::{Ended, Target};
-use crate::endings::{fail, tell};
+use crate::endings::{fail, tell, without_data};
+use crate::span::Span;
 use medium::Medium;
 use model::command::{Cbw, Command, Status};
 use model::refusal::Refusal;
-use model::sense::Sense;
-use scsi::capacity::capacity_data;
+use scsi::capacity::{CAPACITY_LENGTH, capacity_data};
 use scsi::checks::{failure, is_mismatched};
 use scsi::inquiry::inquiry_data;
 use scsi::sense::sense_data;
-
-const CAPACITY_LENGTH: u16 = 8;
 
 // The data of a command that passed its checks.
 fn move_data<M: Medium>(
@@ -29,27 +27,36 @@ fn move_data<M: Medium>(
     ensures bound { result.answered ≤ length buffer.new }
     ensures buffer { buffer.new ≡ front (moving target.place target.sense command buffer.old (M.meaning medium.old)).answer buffer.old }
 {
+    let start = target.place.start;
     match command {
         Command::TestUnitReady => tell(&[], 0, buffer),
         Command::RequestSense { allocation } => tell(
             &sense_data(target.sense),
-            allocation as u16,
+            u16::from(allocation),
             buffer,
         ),
         Command::Inquiry { allocation } => tell(&inquiry_data(), allocation, buffer),
-        Command::ReadCapacity => tell(&capacity_data(target.place.count), CAPACITY_LENGTH, buffer),
+        Command::ReadCapacity => tell(
+            &capacity_data(target.place.count),
+            CAPACITY_LENGTH as u16,
+            buffer,
+        ),
         Command::Read { address, count } => disk::read(
             medium,
-            target.place.start,
-            address,
-            count,
+            Span {
+                start,
+                address,
+                count,
+            },
             buffer,
         ),
         Command::Write { address, count } => disk::write(
             medium,
-            target.place.start,
-            address,
-            count,
+            Span {
+                start,
+                address,
+                count,
+            },
             buffer,
         ),
         Command::Rejected { sense } => fail(sense),
@@ -72,13 +79,8 @@ pub fn perform<M: Medium>(
     if let Some(sense) = failure(target.place.count, target.closed, cbw.command) {
         return Ok(fail(sense));
     }
-    if is_mismatched(cbw.total, cbw.direction, cbw.command) {
-        return Ok(Ended {
-            status: Status::PhaseError,
-            answered: 0,
-            moved: 0,
-            sense: target.sense,
-        });
+    if is_mismatched(cbw) {
+        return Ok(without_data(Status::PhaseError, target.sense));
     }
     Ok(move_data(medium, target, cbw.command, buffer))
 }

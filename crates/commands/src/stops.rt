@@ -3,6 +3,6 @@ use model::refusal::Fault;
 
 #[derive(Clone, Copy)]
 pub struct Stopped {
-    pub moved: u32,
+    pub moved: u16,
     pub fault: Fault,
 }

@@ -2,6 +2,8 @@
 // The bytes are the event's own, so that an answer can be stored in them.
 #![tactic(auto)]
 
+ghost use Rattle.std.specs.Prelude.{◌≡◌};
+
 #[derive(Drop)]
 pub enum Event {
     // a control transfer: its setup bytes, and the data that arrive with it
@@ -25,4 +27,18 @@ pub enum Event {
     BusSuspend,
     BusResume,
     PowerCycle,
+}
+
+impl Event {
+    ghost use Rattle.events.specs.Happenings.{buffer_of};
+
+    // The buffer that the event hands, as it stands; one that hands none has no bytes.
+    pub fn buffer(&self) -> &[u8]
+        ensures { result.now ≡ buffer_of self.now }
+    {
+        match self {
+            Event::Control { data, .. } | Event::Bulk { data, .. } => data.as_slice(),
+            _ => &[],
+        }
+    }
 }

@@ -1,21 +1,25 @@
-use Rattle.std.proofs.Common.{◌≡◌, ℕ, ◌+◌, ◌<◌, ◌≤◌, true, cond, ◌&&◌, ltb, leb, List, [], ◌∷◌, length, get_or, drop, Some, Decides, sym, refl, ap, ◌∙◌, arith}
-use Rattle.std.specs.List.{AllByRecursion}
+use Rattle.std.proofs.Common.{◌≡◌, ℕ, ◌+◌, ◌<◌, ◌≤◌, true, cond, ◌&&◌, ltb, leb, List, [], ◌∷◌, length, get_or, drop, Some, Option, Decides, sym, refl, ap, ◌∙◌, arith}
+use Rattle.std.specs.List.{AllByRecursion, position, position_from}
+use Rattle.std.proofs.lemmas.Iterator.Adapters.{position_from-zero}
 use Rattle.std.proofs.lemmas.List.{at_drop_more}
 use Rattle.std.proofs.ByRecursion.{All-weaker}
 use Rattle.std.proofs.lemmas.Bool.{and_parts, and_from, ltb-true, leb-true, lt-ltb, le-leb}
 use Rattle.model.specs.Extents.{Fitting, Apart, Sound, fitting, sound, holds, found}
 
 module _ {E : Type 0} (at len : E → ℕ) where
-  -- a step of the two loops
+  -- a step of the check
   pub sound_step : (low end : ℕ) (xs : List E) (i : ℕ) (x : E) → i < length xs → x ≡ get_or xs i x
       → sound at len low end (drop i xs) ≡ (fitting at len low end x && sound at len (at x + len x) end (drop (i + 1) xs))
   sound_step low end xs i x h read =
       at_drop_more (sound at len low end) xs i x h ∙ ap (λ y. fitting at len low end y && sound at len (at y + len y) end (drop (i + 1) xs)) (sym read)
 
-  pub found_step : (pos : ℕ) (xs : List E) (i : ℕ) (x : E) → i < length xs → x ≡ get_or xs i x
-      → found at len i pos (drop i xs) ≡ cond (holds at len pos x) (Some i) (found at len (i + 1) pos (drop (i + 1) xs))
-  found_step pos xs i x h read =
-      at_drop_more (found at len i pos) xs i x h ∙ ap (λ y. cond (holds at len pos y) (Some i) (found at len (i + 1) pos (drop (i + 1) xs))) (sym read)
+  -- the search is the library's, with this test
+  found_from : (i pos : ℕ) (xs : List E) → found at len i pos xs ≡ position_from (holds at len pos) i xs
+  found_from i pos [] = refl
+  found_from i pos (x ∷ xs) = ap (λ (o : Option ℕ). cond (holds at len pos x) (Some i) o) (found_from (i + 1) pos xs)
+
+  pub found_position : (pos : ℕ) (xs : List E) → found at len 0 pos xs ≡ position (holds at len pos) xs
+  found_position pos xs = found_from 0 pos xs ∙ sym (position_from-zero (holds at len pos) xs)
 
   -- the test decides the fact
   from_true : (low end : ℕ) (xs : List E) → sound at len low end xs ≡ true → AllByRecursion (λ x. low ≤ at x) xs × (AllByRecursion (Fitting at len end) xs × Apart at len xs)

@@ -59,10 +59,5 @@ pub fn find<E: Extent>(extents: &[E], position: u32) -> Option<usize>
     ensures value { result ≡ found E.from E.size 0 position extents.now }
     ensures finds { Finds E.from E.size position extents.now result }
 {
-    for (i, extent) in extents.iter().enumerate() {
-        if is_held(extent, position) {
-            return Some(i);
-        }
-    }
-    None
+    extents.iter().position(|extent| is_held(extent, position))
 }

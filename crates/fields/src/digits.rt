@@ -1,13 +1,13 @@
 // Hexadecimal digits, read in either case and written in upper case.
 // Two digits are a byte, the high one first.
-ghost use Rattle.std.specs.Prelude.{◌≡◌, ◌<◌, None, vec_items, MatchOption};
-ghost use Rattle.fields.specs.Hexadecimal.{digit_value, byte_value, lone_digit, hex_bytes};
+ghost use Rattle.std.specs.Prelude.{◌≡◌, ◌<◌, ◌++◌, None, OnOk, vec_items, MatchOption};
+ghost use Rattle.fields.specs.Hexadecimal.{digit_value, byte_value, lone_digit, hex_bytes, hex_text};
 ghost use Rattle.fields.specs.Readings.{Reads};
 
 use crate::error::LineError;
-use std::alloc::Global;
+use std::alloc::{AllocError, Global};
 
-// The value of a hexadecimal digit.
+// The value of a hexadecimal digit, case by case as a script writes it, like the event letters.
 pub fn digit(c: char) -> Option<u8>
     ensures value { result ≡ digit_value c }
     ensures bound { MatchOption result (digit_value c ≡ None) (λ d. d < 16) }
@@ -39,21 +39,27 @@ fn lone_digit(c: u8) -> LineError
     }
 }
 
-// The bytes that a field says.
+// The bytes that a field says. Not by `hex::decode`, which tells an odd length before a character that is no digit.
 pub fn read_field(heap: Global, field: &[u8]) -> Result<Vec<u8>, LineError>
     ensures { Reads vec_items result (hex_bytes field.now) }
 {
     let mut bytes = Vec::new(heap);
     let mut rest = field;
+    // Two characters at a time: with `as_chunks` the one that is left over would be matched all the same.
     while let [high, low, tail @ ..] = rest {
-        let Some(byte) = byte_of(*high, *low) else {
-            return Err(LineError::NotHexadecimal);
-        };
-        bytes.push(byte)?;
+        bytes.push(byte_of(*high, *low).ok_or(LineError::NotHexadecimal)?)?;
         rest = tail;
     }
     match rest {
         [] => Ok(bytes),
         [last, ..] => Err(lone_digit(*last)),
     }
+}
+
+// Adds the bytes as hexadecimal pairs, in upper case.
+pub fn push_hex(heap: Global, line: &mut Vec<u8>, bytes: &[u8]) -> Result<(), AllocError>
+    ensures { OnOk result (line.new.items ≡ line.old.items ++ hex_text bytes.now) }
+{
+    line.extend_from_slice(hex::encode_upper(heap, bytes)?.as_bytes())?;
+    Ok(())
 }

@@ -5,9 +5,10 @@ ghost use Rattle.fields.specs.Messages.{message_text};
 ghost use Rattle.fields.specs.declared.error.LineError.TheVariants.{OutOfMemory};
 
 use std::alloc::{AllocError, AllocFailed};
+use std::error::Error;
 use std::fmt;
 
-#[derive(Clone, Copy, Debug)]
+#[derive(Clone, Copy, PartialEq, Eq, Debug)]
 pub enum LineError {
     // the first word is none of the eight letters
     UnknownLetter,
@@ -27,11 +28,12 @@ pub enum LineError {
     OutOfMemory,
 }
 
-impl LineError {
-    fn message(self) -> &'static str
-        ensures { result.now ≡ message_text self }
-    {
-        match self {
+// Written by hand, as `From` below: a derive states neither the text nor which mistake a `?` makes, and contracts name both.
+impl fmt::Display for LineError {
+    ghost output = { λ e. Some (message_text e) };
+
+    fn fmt<W: fmt::Write>(&self, f: &mut fmt::Formatter<W>) -> fmt::Result {
+        f.write_str(match self {
             LineError::UnknownLetter => "unknown event letter",
             LineError::MissingField => "a field is missing",
             LineError::TooManyFields => "there is a field too many",
@@ -40,17 +42,11 @@ impl LineError {
             LineError::InterfaceWidth => "the interface is not one byte",
             LineError::ClockWidth => "the clock is not eight digits",
             LineError::OutOfMemory => "there is no memory for the event",
-        }
+        })
     }
 }
 
-impl fmt::Display for LineError {
-    ghost output = { λ e. Some (message_text e) };
-
-    fn fmt<W: fmt::Write>(&self, f: &mut fmt::Formatter<W>) -> fmt::Result {
-        f.write_str(self.message())
-    }
-}
+impl Error for LineError {}
 
 impl From<AllocError> for LineError {
     ghost from_gives = { λ _ r. r ≡ OutOfMemory };

@@ -1,24 +1,20 @@
 // Access data, which Change Interface Access carries: the identity to present, and how long the change takes.
 // All 12 bytes are taken apart by one pattern.
-ghost use Rattle.std.specs.Prelude.{◌≡◌};
-ghost use Rattle.std.specs.Option.{option_map};
-ghost use Rattle.model.specs.Parts.{target_in, access_in};
+ghost use Rattle.std.specs.Prelude.{◌≡◌, IfErr, option_map};
+ghost use Rattle.std.specs.Result.{result_ok};
+ghost use Rattle.model.specs.Parts.{access_in};
+ghost use Rattle.model.specs.declared.refusal.Refusal.TheVariants.{Malformed};
 ghost use Rattle.formats.specs.Accesses.{access_of};
 
 use model::ids::Ids;
+use model::limits::{BULK_ONLY, LOCKABLE};
+use model::refusal::Refusal;
 
-// The descriptor type of the locking protocol: the second byte of Lock Data, of access data and of every part.
-const LOCKABLE: u8 = 0x25;
+// How many bytes access data have.
+pub const ACCESS_BYTES: usize = 12;
 
-// bLength of the data, and the interface protocol that both identities have.
-const ACCESS_LENGTH: u8 = 0x0C;
-
-const BULK_ONLY: u8 = 0x50;
-
-// The interface subclasses of the two identities.
-const NEGOTIABLE: u8 = 0x07;
-
-const SCSI: u8 = 0x06;
+// Their first byte, bLength, says so.
+const ACCESS_LENGTH: u8 = ACCESS_BYTES as u8;
 
 #[derive(Clone, Copy)]
 pub struct Access {
@@ -28,19 +24,10 @@ pub struct Access {
     pub gone_ms: u32,
 }
 
-fn target_in(subclass: u8) -> Option<Ids>
-    ensures { result ≡ target_in subclass }
-{
-    match subclass {
-        NEGOTIABLE => Some(Ids::Negotiable),
-        SCSI => Some(Ids::ScsiBbb),
-        _ => None,
-    }
-}
-
-// What the data of a Change Interface Access say, or none where they are malformed.
-pub fn read_access(data: &[u8]) -> Option<Access>
-    ensures { option_map access_of result ≡ access_in «data».now }
+// What the data of a Change Interface Access say; they may be malformed.
+pub fn read_access(data: &[u8]) -> Result<Access, Refusal>
+    ensures access { option_map access_of (result_ok result) ≡ access_in «data».now }
+    ensures refusal { IfErr result (λ r. r ≡ Malformed) }
 {
     let [
         ACCESS_LENGTH,
@@ -57,10 +44,10 @@ pub fn read_access(data: &[u8]) -> Option<Access>
         g3,
     ] = data
     else {
-        return None;
+        return Err(Refusal::Malformed);
     };
-    Some(Access {
-        target: target_in(*subclass)?,
+    Ok(Access {
+        target: Ids::try_from(*subclass)?,
         idle_ms: u32::from_le_bytes([*i0, *i1, *i2, *i3]),
         gone_ms: u32::from_le_bytes([*g0, *g1, *g2, *g3]),
     })

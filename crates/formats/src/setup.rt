@@ -1,11 +1,18 @@
 // The 8 setup bytes of a control transfer: bmRequestType, bRequest, wValue, wIndex, wLength.
 // Taken apart by patterns, and judged by themselves.
-ghost use Rattle.std.specs.Prelude.{◌≡◌, IfSome};
+ghost use Rattle.std.specs.Prelude.{◌≡◌, IfErr, false};
+ghost use Rattle.std.specs.Range.{range_inclusive_start, range_inclusive_end, range_inclusive_exhausted};
+ghost use Rattle.std.specs.Result.{result_ok};
 ghost use Rattle.model.specs.Bytes.{between};
-ghost use Rattle.model.specs.Requests.{put_number, put_told, descriptor_asked, requested, length_allowed, judged_setup, is_reading, shortest, longest};
+ghost use Rattle.model.specs.Refusals.{number_of};
+ghost use Rattle.model.specs.Requests.{descriptor_asked, requested, length_allowed, judged_setup, is_reading, shortest, longest};
+ghost use Rattle.model.specs.declared.refusal.Refusal.TheVariants.{Unlisted};
 
+use crate::access::ACCESS_BYTES;
+use model::limits::{HINT_BYTES, PHRASE_BYTES};
 use model::refusal::Refusal;
-use model::request::{Asked, Put, Request};
+use model::request::{Asked, Put, Request, UnitAddress};
+use std::ops::RangeInclusive;
 
 // bmRequestType: standard, to the device, answered; and of the class, to an interface, answered or arriving.
 const STANDARD_IN: u8 = 0x80;
@@ -30,35 +37,30 @@ const DEVICE: u16 = 0x0100;
 
 const CONFIGURATION: u16 = 0x0200;
 
-fn put_told(code: u8) -> Option<Put>
-    ensures told { result ≡ put_told code }
-    ensures number { IfSome result (λ p. put_number p ≡ code) }
-{
-    match code {
-        0x01 => Some(Put::StorePassphrase),
-        0x02 => Some(Put::MatchPassphrase),
-        0x03 => Some(Put::ChangePassphrase),
-        0x04 => Some(Put::ErasePassphrase),
-        0x05 => Some(Put::EraseForgottenPassphrase),
-        0x06 => Some(Put::LockAgain),
-        0x07 => Some(Put::ChangeInterfaceAccess),
-        _ => None,
-    }
-}
+// The bytes of a part's head, and the most that a passphrase, a hint and access data have.
+const HEAD: u16 = 3;
 
-fn descriptor_asked(value: u16) -> Option<Request>
-    ensures { result ≡ descriptor_asked value }
+const PHRASE: u16 = PHRASE_BYTES as u16;
+
+const HINT: u16 = HINT_BYTES as u16;
+
+const ACCESS: u16 = ACCESS_BYTES as u16;
+
+fn descriptor_asked(value: u16) -> Result<Request, Refusal>
+    ensures asked { result_ok result ≡ descriptor_asked value }
+    ensures refusal { IfErr result (λ r. r ≡ Unlisted) }
 {
     match value {
-        DEVICE => Some(Request::DeviceDescriptor),
-        CONFIGURATION => Some(Request::Bundle),
-        _ => None,
+        DEVICE => Ok(Request::DeviceDescriptor),
+        CONFIGURATION => Ok(Request::Bundle),
+        _ => Err(Refusal::Unlisted),
     }
 }
 
-// What the setup bytes ask for, or none where they are not 8 bytes or unlisted in more than wLength.
-pub fn read_setup(setup: &[u8]) -> Option<Asked>
-    ensures { result ≡ requested setup.now }
+// What the setup bytes ask for; they are unlisted where they are not 8 bytes, or listed with no wLength.
+pub fn read_setup(setup: &[u8]) -> Result<Asked, Refusal>
+    ensures asked { result_ok result ≡ requested setup.now }
+    ensures refusal { IfErr result (λ r. r ≡ Unlisted) }
 {
     let [
         kind,
@@ -71,27 +73,29 @@ pub fn read_setup(setup: &[u8]) -> Option<Asked>
         length_high,
     ] = setup
     else {
-        return None;
+        return Err(Refusal::Unlisted);
     };
     let value = u16::from_le_bytes([*value_low, *value_high]);
     let interface = *index_low;
-    let unit = *value_high;
+    let address = UnitAddress {
+        interface,
+        unit: *value_high,
+    };
     let request = match (*kind, *code) {
         (STANDARD_IN, GET_DESCRIPTOR) if interface == 0 && *index_high == 0 => descriptor_asked(
             value,
         )?,
-        (CLASS_IN, GET_LOCK_IN) if *value_low == 0 => Request::LockData { interface, unit },
+        (CLASS_IN, GET_LOCK_IN) if *value_low == 0 => Request::LockData { address },
         (CLASS_IN, GET_HIGHEST_UNIT) if value == 0 => Request::HighestUnit { interface },
         (CLASS_OUT, CLEAR_JAM) if value == 0 => Request::ClearJam { interface },
         (CLASS_OUT, PUT) => Request::PutTo {
-            put: put_told(*value_low)?,
-            interface,
-            unit,
+            put: Put::try_from(*value_low)?,
+            address,
         },
-        _ => return None,
+        _ => return Err(Refusal::Unlisted),
     };
     let length = u16::from_le_bytes([*length_low, *length_high]);
-    Some(Asked { request, length })
+    Ok(Asked { request, length })
 }
 
 // Whether the buffer is to be filled. In every other transfer it holds arriving data.
@@ -104,16 +108,18 @@ pub fn is_reading(setup: &[u8]) -> bool
     }
 }
 
-// The lengths that a Put may have, the shortest and the longest.
-fn put_lengths(put: Put) -> (u16, u16)
-    ensures { result ≡ (shortest put, longest put) }
+// The lengths that a Put may have: each part has its head, and a passphrase or a hint, which may be empty.
+fn put_lengths(put: Put) -> RangeInclusive<u16>
+    ensures shortest { range_inclusive_start result ≡ shortest put }
+    ensures longest { range_inclusive_end result ≡ longest put }
+    ensures unspent { range_inclusive_exhausted result ≡ false }
 {
     match put {
-        Put::StorePassphrase => (6, 156),
-        Put::MatchPassphrase | Put::ErasePassphrase => (3, 53),
-        Put::ChangePassphrase => (9, 209),
-        Put::EraseForgottenPassphrase | Put::LockAgain => (0, 0),
-        Put::ChangeInterfaceAccess => (12, 12),
+        Put::StorePassphrase => 2 * HEAD..=2 * HEAD + PHRASE + HINT,
+        Put::MatchPassphrase | Put::ErasePassphrase => HEAD..=HEAD + PHRASE,
+        Put::ChangePassphrase => 3 * HEAD..=3 * HEAD + 2 * PHRASE + HINT,
+        Put::EraseForgottenPassphrase | Put::LockAgain => 0..=0,
+        Put::ChangeInterfaceAccess => ACCESS..=ACCESS,
     }
 }
 
@@ -121,8 +127,7 @@ fn put_lengths(put: Put) -> (u16, u16)
 pub fn is_put_length(put: Put, length: u16) -> bool
     ensures { result ≡ between (shortest put) (longest put) length }
 {
-    let (shortest, longest) = put_lengths(put);
-    shortest <= length && length <= longest
+    put_lengths(put).contains(&length)
 }
 
 // Whether a request may have this wLength, whatever arrives with it.
@@ -137,14 +142,13 @@ pub fn is_length_allowed(request: Request, length: u16) -> bool
     }
 }
 
-// The judgement of a setup by its bytes alone: 0, or the refusal 7 (not 8 bytes, or
-// unlisted) or 9 (a wLength that is not allowed).
-pub fn judge_setup(setup: &[u8]) -> u8
-    ensures { result ≡ judged_setup setup.now }
+// The judgement of a setup by its bytes alone: it may be unlisted, or have a wLength that is not allowed.
+pub fn judge_setup(setup: &[u8]) -> Result<(), Refusal>
+    ensures { number_of result ≡ judged_setup setup.now }
 {
-    match read_setup(setup) {
-        None => Refusal::Unlisted.number(),
-        Some(asked) if is_length_allowed(asked.request, asked.length) => 0,
-        Some(_) => Refusal::WrongLength.number(),
+    let asked = read_setup(setup)?;
+    if !is_length_allowed(asked.request, asked.length) {
+        return Err(Refusal::WrongLength);
     }
+    Ok(())
 }

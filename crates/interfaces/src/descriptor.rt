@@ -1,17 +1,26 @@
 // The device descriptor and the bundle: the configuration descriptor with all its interfaces and endpoints.
-ghost use Rattle.std.specs.Prelude.{◌≡◌, ◌+◌, ◌*◌, ◌<◌, ◌≤◌, ◌++◌, length, take, drop};
-ghost use Rattle.model.specs.Descriptors.{weighed, product_bits, device_descriptor, configuration, interface_piece, interface_pieces, bundle};
-ghost use Rattle.layout.specs.Tables.{layout_of};
-ghost use Rattle.interfaces.specs.Tables.{bundle_of, interfaces_of};
+ghost use Rattle.std.specs.Prelude.{◌≡◌, ◌+◌, ◌<◌, ◌≤◌, ◌++◌, length};
+ghost use Rattle.arrayvec.specs.ArrayVec.{array_vec_len};
+ghost use Rattle.model.specs.Descriptors.{weighed, product_bits, device_descriptor, configuration, interface_piece, bundle};
 
-use crate::table::{Bundle, Interfaces, LONGEST_BUNDLE};
+use crate::table::Interfaces;
+use arrayvec::ArrayVec;
 use layout::table::Layout;
 use model::ids::{Ids, Interface};
+use model::limits::{BULK_ONLY, LOCKABLE, MOST_INTERFACES};
 
 // Bytes of the configuration descriptor itself, and of each interface behind it.
 const CONFIGURATION_BYTES: usize = 9;
 
 const PIECE_BYTES: usize = 26;
+
+// A bundle of as many interfaces as a stick may have.
+pub const LONGEST_BUNDLE: usize = CONFIGURATION_BYTES + PIECE_BYTES * MOST_INTERFACES;
+
+// The bytes of the device descriptor, and of its head.
+const DEVICE_BYTES: usize = 18;
+
+const HEAD_BYTES: usize = 8;
 
 // A weight, counted for Negotiable IDs only.
 fn weighed(ids: Ids, weight: u16) -> u16
@@ -24,7 +33,8 @@ fn weighed(ids: Ids, weight: u16) -> u16
     }
 }
 
-// What the Negotiable interfaces add to the product base.
+// What the Negotiable interfaces add to the product base: a bit of its own for each.
+// A chain here is no plainer: its sum has to be bounded by the weights, one by one.
 fn product_bits(interfaces: &[Interface]) -> u16
     requires { length interfaces.now ≤ 4 }
     ensures value { result ≡ product_bits 0 interfaces.now }
@@ -40,24 +50,24 @@ fn product_bits(interfaces: &[Interface]) -> u16
 }
 
 // The head of the device descriptor: USB 2.00, class given by the interfaces, 64 bytes to a control packet.
-const DEVICE_HEAD: [u8; 8] = [0x12, 0x01, 0x00, 0x02, 0x00, 0x00, 0x00, 0x40];
+const DEVICE_HEAD: [u8; HEAD_BYTES] = [0x12, 0x01, 0x00, 0x02, 0x00, 0x00, 0x00, 0x40];
 
 // The device descriptor of a stick with this layout, which tells by idProduct which interfaces are Negotiable.
-pub fn device_descriptor(layout: &Layout, interfaces: &Interfaces) -> [u8; 18]
-    ensures { result ≡ device_descriptor (layout_of layout.now) (interfaces_of interfaces.now) }
+pub fn device_descriptor(layout: &Layout, interfaces: &Interfaces) -> [u8; DEVICE_BYTES]
+    ensures { result ≡ device_descriptor layout.now interfaces.now }
 {
-    let product = layout.product_base + product_bits(&interfaces.list[0..interfaces.count]);
+    let product = layout.product_base() + product_bits(&interfaces.list);
     let [h0, h1, h2, h3, h4, h5, h6, h7] = DEVICE_HEAD;
-    let [v0, v1] = layout.vendor.to_le_bytes();
+    let [v0, v1] = layout.vendor().to_le_bytes();
     let [p0, p1] = product.to_le_bytes();
-    let [r0, r1] = layout.release.to_le_bytes();
+    let [r0, r1] = layout.release().to_le_bytes();
     [
         h0, h1, h2, h3, h4, h5, h6, h7, v0, v1, p0, p1, r0, r1, 0x00, 0x00, 0x01, 0x01,
     ]
 }
 
 // The configuration descriptor's own 9 bytes: configuration 1, bus powered, 100 mA.
-fn configuration(total: u16, interface_count: u8) -> [u8; 9]
+fn configuration(total: u16, interface_count: u8) -> [u8; CONFIGURATION_BYTES]
     ensures { result ≡ configuration total interface_count }
 {
     let [t0, t1] = total.to_le_bytes();
@@ -65,7 +75,7 @@ fn configuration(total: u16, interface_count: u8) -> [u8; 9]
 }
 
 // One interface: its descriptor, the lockable extension, and its endpoints, bulk in and bulk out.
-fn interface_piece(number: u8, ids: Ids) -> [u8; 26]
+fn interface_piece(number: u8, ids: Ids) -> [u8; PIECE_BYTES]
     requires { number < 4 }
     ensures { result ≡ interface_piece number ids }
 {
@@ -78,11 +88,11 @@ fn interface_piece(number: u8, ids: Ids) -> [u8; 26]
         0x00,
         0x02,
         0x08,
-        ids.subclass(),
-        0x50,
+        u8::from(ids),
+        BULK_ONLY,
         0x00, // interface
         0x03,
-        0x25,
+        LOCKABLE,
         0x00, // lockable
         0x07,
         0x05,
@@ -101,47 +111,26 @@ fn interface_piece(number: u8, ids: Ids) -> [u8; 26]
     ]
 }
 
-// Writes the interfaces' pieces one behind the other, behind the first 9 bytes.
-fn write_pieces(out: &mut [u8], interfaces: &[Interface])
-    requires { (length interfaces.now ≤ 4) × (9 + 26 * length interfaces.now ≤ length out.old) }
-    ensures { out.new ≡ (take 9 out.old ++ interface_pieces 0 interfaces.now) ++ drop (9 + 26 * length interfaces.now) out.old }
+// Appends a piece of a bundle, for which there is room. An answer has its like; neither crate knows of the other, and the body is the library's call.
+fn append(bundle: &mut ArrayVec<u8, LONGEST_BUNDLE>, piece: &[u8])
+    requires { array_vec_len bundle.old + length piece.now ≤ 113 }
+    ensures { bundle.new.items ≡ bundle.old.items ++ piece.now }
 {
-    for (i, interface) in interfaces.iter().enumerate() {
-        let at = CONFIGURATION_BYTES + PIECE_BYTES * i;
-        out[at..at + PIECE_BYTES].copy_from_slice(&interface_piece(i as u8, interface.ids));
-    }
-}
-
-// Writes a whole bundle, and says how long it is.
-fn write_bundle(out: &mut [u8], interfaces: &[Interface]) -> usize
-    requires { (length interfaces.now ≤ 4) × (length out.old ≡ 113) }
-    ensures front { take result out.new ≡ bundle interfaces.now }
-    ensures bound { result ≤ 113 }
-{
-    let count = interfaces.len();
-    let len = CONFIGURATION_BYTES + PIECE_BYTES * count;
-    out[0..CONFIGURATION_BYTES].copy_from_slice(&configuration(len as u16, count as u8));
-    write_pieces(out, interfaces);
-    len
+    bundle.try_extend_from_slice(piece).unwrap();
 }
 
 impl Interfaces {
     // The bundle of these interfaces.
-    pub fn bundle(&self) -> Bundle
-        ensures { bundle_of result ≡ bundle (interfaces_of self.now) }
+    pub fn bundle(&self) -> ArrayVec<u8, LONGEST_BUNDLE>
+        ensures { result.items ≡ bundle self.now }
     {
-        let mut bytes = [0; LONGEST_BUNDLE];
-        let len = write_bundle(&mut bytes, &self.list[0..self.count]);
-        Bundle { bytes, len }
-    }
-}
-
-impl Bundle {
-    // The bundle's bytes.
-    pub fn as_slice(&self) -> &[u8]
-        ensures bytes { result.now ≡ bundle_of self.now }
-        ensures bound { length result.now ≤ 113 }
-    {
-        &self.bytes[0..self.len]
+        let count = self.list.len();
+        let total = CONFIGURATION_BYTES + PIECE_BYTES * count;
+        let mut bytes = ArrayVec::new();
+        append(&mut bytes, &configuration(total as u16, count as u8));
+        for (i, interface) in self.list.iter().enumerate() {
+            append(&mut bytes, &interface_piece(i as u8, interface.ids));
+        }
+        bytes
     }
 }

@@ -1,42 +1,63 @@
-// How the interfaces change while power is on: jams are cleared, and one interface presents other IDs.
-ghost use Rattle.std.specs.Prelude.{◌≡◌, false, map};
+// How the interfaces change while power is on: they jam, jams are cleared, and one interface presents other IDs.
+// A change of an interface that the stick has not changes nothing.
+ghost use Rattle.std.specs.Prelude.{◌≡◌, false, length, map};
+ghost use Rattle.std.specs.Fn.{FnOnceReturnsAtMut};
+ghost use Rattle.model.specs.Bulk.{jammed};
 ghost use Rattle.model.specs.Control.{alter, unjammed};
 ghost use Rattle.model.specs.Sticks.{interface as interface_with};
-ghost use Rattle.interfaces.specs.Tables.{interfaces_of};
+ghost use Rattle.model.specs.declared.ids.Interface.{Interface};
 
 use crate::table::Interfaces;
 use model::ids::{Ids, Interface};
 
-const MOST_INTERFACES: usize = 4;
-
-fn unjam_list(list: &mut [Interface])
-    ensures { list.new ≡ map unjammed list.old }
-{
-    for interface in list.iter_mut() {
-        interface.jammed = false;
-    }
-}
-
 impl Interfaces {
+    // Changes one interface; the others stay.
+    fn alter<F: FnOnce(&mut Interface)>(&mut self, interface: u8, change: F)
+        requires { F.IsAlwaysCallable change }
+        ensures list { (f : Interface → Interface) → ((x y : Interface) → FnOnceReturnsAtMut F.FnOnce change x tt y → y ≡ f x) → self.new ≡ alter interface f self.old }
+        ensures count { length self.new ≡ length self.old }
+    {
+        if let Some(presented) = self.list.get_mut(usize::from(interface)) {
+            change(presented);
+        }
+    }
+
+    // Jams one interface.
+    pub fn jam(&mut self, interface: u8)
+        ensures list { self.new ≡ alter interface jammed self.old }
+        ensures count { length self.new ≡ length self.old }
+    {
+        self.alter(interface, |presented| presented.jammed = true);
+    }
+
+    // Clears the jam of one interface.
+    pub fn clear_jam(&mut self, interface: u8)
+        ensures list { self.new ≡ alter interface unjammed self.old }
+        ensures count { length self.new ≡ length self.old }
+    {
+        self.alter(interface, |presented| presented.jammed = false);
+    }
+
     // Clears every jam.
     pub fn unjam(&mut self)
-        ensures list { interfaces_of self.new ≡ map unjammed (interfaces_of self.old) }
-        ensures count { self.new.count ≡ self.old.count }
+        ensures list { self.new ≡ map unjammed self.old }
+        ensures count { length self.new ≡ length self.old }
     {
-        unjam_list(&mut self.list);
+        for interface in self.list.iter_mut() {
+            interface.jammed = false;
+        }
     }
 
     // One interface presents the target; the others keep their IDs.
     pub fn present(&mut self, interface: u8, target: Ids)
-        ensures list { interfaces_of self.new ≡ alter interface (λ x. interface_with target false) (interfaces_of self.old) }
-        ensures count { self.new.count ≡ self.old.count }
+        ensures list { self.new ≡ alter interface (λ x. interface_with target false) self.old }
+        ensures count { length self.new ≡ length self.old }
     {
-        let i = interface as usize;
-        if i < MOST_INTERFACES {
-            self.list[i] = Interface {
+        self.alter(interface, |presented| {
+            *presented = Interface {
                 ids: target,
                 jammed: false,
             };
-        }
+        });
     }
 }

@@ -1,24 +1,73 @@
-// The tables of this crate: the interfaces of a stick, and a whole bundle.
-// In a file of their own, so that definitions may name them.
-ghost use Rattle.std.specs.Prelude.{◌≡◌, ◌≤◌, length};
+// The interfaces of a stick: their value is the list of those that the layout has.
+// In fixed memory, which has room for as many as a layout may have.
+ghost use Rattle.std.specs.Prelude.{◌≡◌, ◌<◌, [], ◌∷◌, ◌++◌, false, length, take, slice_index_or};
+ghost use Rattle.model.specs.Sticks.{interface as interface_with};
+ghost use Rattle.model.specs.declared.ids.Ids.TheVariants.{ScsiBbb};
 
-use model::ids::Interface;
+use arrayvec::ArrayVec;
+use model::ids::{Ids, Interface};
+use model::limits::MOST_INTERFACES;
+use std::marker::Model;
 
-// As many interfaces as the layout has, at most four.
-#[derive(Clone, Copy)]
+#[derive(Clone, Drop)]
 pub struct Interfaces {
-    pub list: [Interface; 4],
-    pub count: usize,
-    ghost few: { count ≤ 4 },
-    ghost full: { length list ≡ 4 },
+    pub list: ArrayVec<Interface, MOST_INTERFACES>,
 }
 
-// The longest bundle: 9 bytes, and 26 for each of four interfaces.
-pub const LONGEST_BUNDLE: usize = 113;
+impl Model for Interfaces {
+    ghost use Rattle.std.specs.Prelude.{List};
+    ghost use Rattle.model.specs.declared.ids.Interface.{Interface};
 
-#[derive(Clone, Copy)]
-pub struct Bundle {
-    pub(crate) bytes: [u8; 113],
-    pub(crate) len: usize,
-    ghost within: { len ≤ 113 },
+    ghost Value = { List Interface };
+
+    ghost view = { λ t. t.list.items };
+
+    ghost inverse = { λ xs. record { list = record { items = xs } } };
+}
+
+impl Interfaces {
+    // No interface.
+    pub fn new() -> Interfaces
+        ensures { result ≡ [] }
+    {
+        Interfaces {
+            list: ArrayVec::new(),
+        }
+    }
+
+    // One interface more, behind the others, of no more than a stick may have.
+    pub fn push(&mut self, interface: Interface)
+        ensures { self.new ≡ take 4 (self.old ++ interface ∷ []) }
+    {
+        if !self.list.is_full() {
+            self.list.push(interface);
+        }
+    }
+
+    // What an interface presents; one that the stick has not is told as a new one.
+    pub fn ids(&self, interface: u8) -> Ids
+        ensures { result ≡ (slice_index_or self.now interface (interface_with ScsiBbb false)).ids }
+    {
+        self.list
+            .get(usize::from(interface))
+            .map_or(Ids::ScsiBbb, |presented| presented.ids)
+    }
+
+    // Whether an interface is jammed.
+    pub fn is_jammed(&self, interface: u8) -> bool
+        ensures { result ≡ (slice_index_or self.now interface (interface_with ScsiBbb false)).jammed }
+    {
+        self.list
+            .get(usize::from(interface))
+            .is_some_and(|presented| presented.jammed)
+    }
+}
+
+impl Default for Interfaces {
+    ghost is_default = { λ interfaces. interfaces ≡ [] };
+
+    // No interface.
+    fn default() -> Interfaces {
+        Interfaces::new()
+    }
 }

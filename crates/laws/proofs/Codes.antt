@@ -114,7 +114,7 @@ module _ (P : ℕ → Type 0) (t0 : P 0) (t8 : P 8) (t10 : P 10) (t11 : P 11) (t
   pub any_code : (lay : Layout) (r : Request) (n : ℕ) (ds : List ℕ) (s : Stick) → ((length_allowed r n && eqb n (length ds)) ≡ false → P 9) → P (request lay r n ds s).code
   any_code lay DeviceDescriptor n ds s t9 = answered_code n (length ds) (device_descriptor lay s.interfaces) s
   any_code lay Bundle n ds s t9 = answered_code n (length ds) (bundle s.interfaces) s
-  any_code lay (LockData i k) n ds s t9 = lock_code lay (find_unit lay i k) i k n (length ds) s
+  any_code lay (LockData a) n ds s t9 = lock_code lay (find_unit lay a.interface a.unit) a.interface a.unit n (length ds) s
   any_code lay (HighestUnit i) n ds s t9 =
       interface_code lay i s (tell_highest lay i n (length ds) s)
       (cond_code P (eqb n 1) (answered n (length ds) ((get_or lay.counts i 0 - 1) ∷ []) s) (refuse WrongLength s)
@@ -122,13 +122,13 @@ module _ (P : ℕ → Type 0) (t0 : P 0) (t8 : P 8) (t10 : P 10) (t11 : P 11) (t
   any_code lay (ClearJam i) n ds s t9 =
       interface_code lay i s (clear_jam i n (length ds) s)
       (cond_code P (eqb n 0 && eqb n (length ds)) (outcome 0 [] (with_interfaces (alter i unjammed s.interfaces) s)) (refuse WrongLength s) (λ _. t0) t9)
-  any_code lay (PutTo StorePassphrase i k) n ds s t9 = put_code lay StorePassphrase i k n ds s (carried StorePassphrase ds) tt t9
-  any_code lay (PutTo MatchPassphrase i k) n ds s t9 = put_code lay MatchPassphrase i k n ds s (carried MatchPassphrase ds) tt t9
-  any_code lay (PutTo ChangePassphrase i k) n ds s t9 = put_code lay ChangePassphrase i k n ds s (carried ChangePassphrase ds) tt t9
-  any_code lay (PutTo ErasePassphrase i k) n ds s t9 = put_code lay ErasePassphrase i k n ds s (carried ErasePassphrase ds) tt t9
-  any_code lay (PutTo EraseForgottenPassphrase i k) n ds s t9 = put_code lay EraseForgottenPassphrase i k n ds s (carried EraseForgottenPassphrase ds) tt t9
-  any_code lay (PutTo LockAgain i k) n ds s t9 = put_code lay LockAgain i k n ds s (carried LockAgain ds) tt t9
-  any_code lay (PutTo ChangeInterfaceAccess i k) n ds s t9 =
-      interface_code lay i s (access_sized lay i n ds s)
-      (cond_code P (eqb n 12 && eqb n (length ds)) (change_access lay i (access_in ds) s) (refuse WrongLength s)
-      (λ _. access_code lay i (access_in ds) s) (λ e. t9 (twelve n (eqb n (length ds)) e)))
+  any_code lay (PutTo StorePassphrase a) n ds s t9 = put_code lay StorePassphrase a.interface a.unit n ds s (carried StorePassphrase ds) tt t9
+  any_code lay (PutTo MatchPassphrase a) n ds s t9 = put_code lay MatchPassphrase a.interface a.unit n ds s (carried MatchPassphrase ds) tt t9
+  any_code lay (PutTo ChangePassphrase a) n ds s t9 = put_code lay ChangePassphrase a.interface a.unit n ds s (carried ChangePassphrase ds) tt t9
+  any_code lay (PutTo ErasePassphrase a) n ds s t9 = put_code lay ErasePassphrase a.interface a.unit n ds s (carried ErasePassphrase ds) tt t9
+  any_code lay (PutTo EraseForgottenPassphrase a) n ds s t9 = put_code lay EraseForgottenPassphrase a.interface a.unit n ds s (carried EraseForgottenPassphrase ds) tt t9
+  any_code lay (PutTo LockAgain a) n ds s t9 = put_code lay LockAgain a.interface a.unit n ds s (carried LockAgain ds) tt t9
+  any_code lay (PutTo ChangeInterfaceAccess a) n ds s t9 =
+      interface_code lay a.interface s (access_sized lay a.interface n ds s)
+      (cond_code P (eqb n 12 && eqb n (length ds)) (change_access lay a.interface (access_in ds) s) (refuse WrongLength s)
+      (λ _. access_code lay a.interface (access_in ds) s) (λ e. t9 (twelve n (eqb n (length ds)) e)))

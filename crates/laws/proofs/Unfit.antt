@@ -55,18 +55,18 @@ wrong_length b x s e = ap (λ t. (cond t x (refuse WrongLength s)).code) e
 pub unfit_code : (lay : Layout) (r : Request) (n : ℕ) (ds : List ℕ) (s : Stick) → length_allowed r n ≡ false → Unfit (request lay r n ds s).code
 unfit_code lay DeviceDescriptor n ds s e = absurd (true≢false e)
 unfit_code lay Bundle n ds s e = absurd (true≢false e)
-unfit_code lay (LockData i k) n ds s e = absurd (true≢false e)
+unfit_code lay (LockData a) n ds s e = absurd (true≢false e)
 unfit_code lay (HighestUnit i) n ds s e =
     unfit_interface lay i s (tell_highest lay i n (length ds) s) (wrong_length (eqb n 1) (answered n (length ds) ((get_or lay.counts i 0 - 1) ∷ []) s) s e)
 unfit_code lay (ClearJam i) n ds s e =
     unfit_interface lay i s (clear_jam i n (length ds) s)
     (wrong_length (eqb n 0 && eqb n (length ds)) (outcome 0 [] (with_interfaces (alter i unjammed s.interfaces) s)) s (and_left (eqb n 0) (eqb n (length ds)) e))
-unfit_code lay (PutTo StorePassphrase i k) n ds s e = unfit_put lay StorePassphrase i k n ds s e
-unfit_code lay (PutTo MatchPassphrase i k) n ds s e = unfit_put lay MatchPassphrase i k n ds s e
-unfit_code lay (PutTo ChangePassphrase i k) n ds s e = unfit_put lay ChangePassphrase i k n ds s e
-unfit_code lay (PutTo ErasePassphrase i k) n ds s e = unfit_put lay ErasePassphrase i k n ds s e
-unfit_code lay (PutTo EraseForgottenPassphrase i k) n ds s e = unfit_put lay EraseForgottenPassphrase i k n ds s e
-unfit_code lay (PutTo LockAgain i k) n ds s e = unfit_put lay LockAgain i k n ds s e
-unfit_code lay (PutTo ChangeInterfaceAccess i k) n ds s e =
-    unfit_interface lay i s (access_sized lay i n ds s)
-    (wrong_length (eqb n 12 && eqb n (length ds)) (change_access lay i (access_in ds) s) s (and_left (eqb n 12) (eqb n (length ds)) (not_twelve n e)))
+unfit_code lay (PutTo StorePassphrase a) n ds s e = unfit_put lay StorePassphrase a.interface a.unit n ds s e
+unfit_code lay (PutTo MatchPassphrase a) n ds s e = unfit_put lay MatchPassphrase a.interface a.unit n ds s e
+unfit_code lay (PutTo ChangePassphrase a) n ds s e = unfit_put lay ChangePassphrase a.interface a.unit n ds s e
+unfit_code lay (PutTo ErasePassphrase a) n ds s e = unfit_put lay ErasePassphrase a.interface a.unit n ds s e
+unfit_code lay (PutTo EraseForgottenPassphrase a) n ds s e = unfit_put lay EraseForgottenPassphrase a.interface a.unit n ds s e
+unfit_code lay (PutTo LockAgain a) n ds s e = unfit_put lay LockAgain a.interface a.unit n ds s e
+unfit_code lay (PutTo ChangeInterfaceAccess a) n ds s e =
+    unfit_interface lay a.interface s (access_sized lay a.interface n ds s)
+    (wrong_length (eqb n 12 && eqb n (length ds)) (change_access lay a.interface (access_in ds) s) s (and_left (eqb n 12) (eqb n (length ds)) (not_twelve n e)))

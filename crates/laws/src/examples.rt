@@ -2,14 +2,10 @@
 ghost use Rattle.laws.specs.EventExamples.{EventExamples};
 ghost use Rattle.laws.specs.Examples.{Examples};
 
-pub fn examples_hold() -> u8
+pub fn examples_hold()
     ensures { Examples }
-{
-    0
-}
+{}
 
-pub fn event_examples_hold() -> u8
+pub fn event_examples_hold()
     ensures { EventExamples }
-{
-    0
-}
+{}

@@ -1,8 +1,6 @@
 // The judgement of a setup by its bytes alone agrees with what a control transfer refuses.
 ghost use Rattle.laws.specs.Agreement.{JudgementAgrees};
 
-pub fn judgement_agrees() -> u8
+pub fn judgement_agrees()
     ensures { JudgementAgrees }
-{
-    0
-}
+{}

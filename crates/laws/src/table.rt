@@ -1,8 +1,6 @@
 // The table of lock states: which Put leads from which state to which.
 ghost use Rattle.laws.specs.StateTable.{StateTable};
 
-pub fn state_table_holds() -> u8
+pub fn state_table_holds()
     ensures { StateTable }
-{
-    0
-}
+{}

@@ -1,5 +1,3 @@
-pub mod Counts
 pub mod Pairs
-pub mod Rules
 pub mod Sums
-pub mod Numbers
+pub mod Fitted

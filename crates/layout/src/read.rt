@@ -1,110 +1,92 @@
 // Layout bytes: idVendor, product base, bcdDevice, the number of interfaces, a unit count for each, a place for each unit.
 // A layout that breaks a rule is refused by inspection, and fitted as a stick with no interface.
-ghost use Rattle.std.specs.Prelude.{◌≡◌, ◌+◌, ◌*◌, ◌≤◌, true, length, take, drop, replicate, IfSome, if◌then◌else◌, Some, None, Ok, Err};
+ghost use Rattle.std.specs.Prelude.{◌≡◌, ◌*◌, ◌/◌, ◌≤◌, true, ◌&&◌, length, if◌then◌else◌, Ok, Err, IsTrue, nat_lt};
+ghost use Rattle.arrayvec.specs.ArrayVec.{array_vec_len};
 ghost use Rattle.model.specs.Bytes.{le32};
-ghost use Rattle.std.specs.Option.{option_map};
 ghost use Rattle.model.specs.Extents.{sound};
-ghost use Rattle.model.specs.Layouts.{place, place_start, place_count, pairs, sum, all_between, layout_rules, said_layout, fitted_layout};
-ghost use Rattle.layout.specs.Tables.{layout_of};
+ghost use Rattle.model.specs.Layouts.{place, place_start, place_count, pairs, sum, all_between, layout_rules, said_layout, no_layout, fitted_layout};
 
-use crate::table::{Layout, MOST_INTERFACES, MOST_UNITS};
+use crate::places::units_of;
+use crate::table::Layout;
+use arrayvec::ArrayVec;
 use extents::is_sound;
 use model::layout::Place;
+use model::limits::MOST_UNITS;
 use model::refusal::Refusal;
 
+// The bytes of a place, its first block and its number of blocks, 4 bytes each.
 const PLACE_BYTES: usize = 8;
 
-const NO_PLACE: Place = Place { start: 0, count: 0 };
+// The units that one interface may have.
+const MOST_UNITS_EACH: u8 = 4;
 
-// One place: its first block and its number of blocks, 4 bytes each.
-fn place_at(bytes: &[u8], at: usize) -> Place
-    requires { at + 8 ≤ length bytes.now }
-    ensures { result ≡ place (le32 bytes.now at) (le32 bytes.now (at + 4)) }
+// The product bases leave idProduct a bit for each interface.
+const PRODUCT_STEP: u16 = 16;
+
+fn place_of(bytes: &[u8; PLACE_BYTES]) -> Place
+    ensures { result ≡ place (le32 bytes.now 0) (le32 bytes.now 4) }
 {
+    let [s0, s1, s2, s3, c0, c1, c2, c3] = *bytes;
     Place {
-        start: u32::from_le_bytes([bytes[at], bytes[at + 1], bytes[at + 2], bytes[at + 3]]),
-        count: u32::from_le_bytes([bytes[at + 4], bytes[at + 5], bytes[at + 6], bytes[at + 7]]),
+        start: u32::from_le_bytes([s0, s1, s2, s3]),
+        count: u32::from_le_bytes([c0, c1, c2, c3]),
     }
 }
 
-// The number of units, or none where a count is not 1 to 4.
-fn units_of(counts: &[u8]) -> Option<usize>
-    requires { length counts.now ≤ 4 }
-    ensures value { result ≡ (if all_between 1 4 counts.now then Some (sum counts.now) else None) }
-    ensures bound { IfSome result (λ n. n ≤ 16) }
+// The places that the bytes say; bytes behind the last whole place say nothing.
+fn read_places(bytes: &[u8]) -> ArrayVec<Place, MOST_UNITS>
+    requires { length bytes.now / PLACE_BYTES ≤ MOST_UNITS }
+    ensures value { result.items ≡ pairs (length bytes.now / PLACE_BYTES) bytes.now }
+    ensures len { array_vec_len result ≡ length bytes.now / PLACE_BYTES }
 {
-    let mut total = 0;
-    for count in counts {
-        if *count < 1 || *count > 4 {
-            return None;
-        }
-        total += *count as usize;
-    }
-    Some(total)
-}
-
-// The counts in a table, with zeros behind them.
-fn count_table(counts: &[u8]) -> [u8; 4]
-    requires { length counts.now ≤ 4 }
-    ensures front { take (length counts.now) result ≡ counts.now }
-    ensures rest { drop (length counts.now) result ≡ drop (length counts.now) (replicate 4 0) }
-{
-    let mut table = [0; MOST_INTERFACES];
-    let n = counts.len();
-    table[0..n].copy_from_slice(counts);
-    table
-}
-
-// The places of `count` units.
-fn read_places(bytes: &[u8], count: usize) -> [Place; 16]
-    requires { (count ≤ 16) × (length bytes.now ≡ 8 * count) }
-    ensures front { take count result ≡ pairs count bytes.now }
-    ensures rest { drop count result ≡ drop count (replicate 16 (place 0 0)) }
-{
-    let mut places = [NO_PLACE; MOST_UNITS];
-    for i in 0..count {
-        places[i] = place_at(bytes, PLACE_BYTES * i);
+    let (pairs, _) = bytes.as_chunks::<PLACE_BYTES>();
+    let mut places = ArrayVec::new();
+    // A chain into `extend` is no plainer: it could fail, and that would have to be ruled out.
+    for pair in pairs {
+        places.push(place_of(pair));
     }
     places
 }
 
-// Whether the first `count` places pass the check against the medium's end.
-fn are_placed(places: &[Place; 16], count: usize, blocks: u32) -> bool
-    requires { count ≤ 16 }
-    ensures { result ≡ sound place_start place_count 0 blocks (take count places.now) }
+// Whether there is an interface, and each has a unit, but not too many.
+fn are_served(counts: &[u8]) -> bool
+    ensures value { result ≡ (nat_lt 0 (length counts.now) && all_between 1 4 counts.now) }
+    ensures few { IsTrue result → sum counts.now ≤ 4 * length counts.now }
 {
-    is_sound(&places[0..count], blocks)
+    !counts.is_empty()
+        && counts
+            .iter()
+            .all(|count| (1..=MOST_UNITS_EACH).contains(count))
 }
 
-// The layout that the bytes say, or none where they break a rule.
-fn read_layout(bytes: &[u8], blocks: u32) -> Option<Layout>
-    ensures { option_map layout_of result ≡ (if layout_rules bytes.now blocks then Some (said_layout bytes.now) else None) }
+// The layout that the bytes say, or a refusal where they break a rule.
+fn read_layout(bytes: &[u8], blocks: u32) -> Result<Layout, Refusal>
+    ensures { result ≡ (if layout_rules bytes.now blocks then Ok (said_layout bytes.now) else Err Refusal.Layout) }
 {
     let [v0, v1, b0, b1, r0, r1, n, rest @ ..] = bytes else {
-        return None;
+        return Err(Refusal::Layout);
     };
-    let interface_count = *n as usize;
-    if interface_count < 1 || interface_count > MOST_INTERFACES || rest.len() < interface_count {
-        return None;
+    let (counts, pairs) = rest
+        .split_at_checked(usize::from(*n))
+        .ok_or(Refusal::Layout)?;
+    if !are_served(counts) {
+        return Err(Refusal::Layout);
     }
-    let (counts, pairs) = rest.split_at(interface_count);
-    let unit_count = units_of(counts)?;
+    let unit_counts = ArrayVec::try_from(counts).map_err(|_| Refusal::Layout)?;
+    let unit_count = units_of(counts);
     let product_base = u16::from_le_bytes([*b0, *b1]);
-    if product_base % 16 != 0 || pairs.len() != PLACE_BYTES * unit_count {
-        return None;
+    if product_base % PRODUCT_STEP != 0 || pairs.len() != PLACE_BYTES * unit_count {
+        return Err(Refusal::Layout);
     }
-    let places = read_places(pairs, unit_count);
-    if !are_placed(&places, unit_count, blocks) {
-        return None;
+    let places = read_places(pairs);
+    if !is_sound(&places, blocks) {
+        return Err(Refusal::Layout);
     }
-    let unit_counts = count_table(counts);
-    Some(Layout {
+    Ok(Layout {
         vendor: u16::from_le_bytes([*v0, *v1]),
         product_base,
         release: u16::from_le_bytes([*r0, *r1]),
-        interface_count,
         unit_counts,
-        unit_count,
         places,
     })
 }
@@ -113,32 +95,28 @@ fn read_layout(bytes: &[u8], blocks: u32) -> Option<Layout>
 pub fn inspect(bytes: &[u8], blocks: u32) -> Result<(), Refusal>
     ensures { result ≡ (if layout_rules bytes.now blocks then Ok tt else Err Refusal.Layout) }
 {
-    match read_layout(bytes, blocks) {
-        Some(_) => Ok(()),
-        None => Err(Refusal::Layout),
-    }
+    read_layout(bytes, blocks).map(|_| ())
 }
 
-// A stick without interfaces: what layout bytes that break a rule are fitted as.
-const NO_LAYOUT: Layout = Layout {
-    vendor: 0,
-    product_base: 0,
-    release: 0,
-    interface_count: 0,
-    unit_counts: [0; MOST_INTERFACES],
-    unit_count: 0,
-    places: [NO_PLACE; MOST_UNITS],
-};
-
 impl Layout {
+    // A stick without interfaces: what layout bytes that break a rule are fitted as.
+    fn bare() -> Layout
+        ensures { result ≡ no_layout }
+    {
+        Layout {
+            vendor: 0,
+            product_base: 0,
+            release: 0,
+            unit_counts: ArrayVec::new(),
+            places: ArrayVec::new(),
+        }
+    }
+
     // Fits a layout, whatever the bytes: against a rule there is no interface, and zeros.
     pub fn fit(bytes: &[u8], blocks: u32) -> Layout
-        ensures layout { layout_of result ≡ fitted_layout bytes.now blocks }
-        ensures placed { sound place_start place_count 0 blocks (layout_of result).places ≡ true }
+        ensures layout { result ≡ fitted_layout bytes.now blocks }
+        ensures placed { sound place_start place_count 0 blocks result.places ≡ true }
     {
-        match read_layout(bytes, blocks) {
-            Some(layout) => layout,
-            None => NO_LAYOUT,
-        }
+        read_layout(bytes, blocks).unwrap_or_else(|_| Layout::bare())
     }
 }

@@ -1,28 +1,97 @@
-// The layout as a fitted stick keeps it; its invariant bounds the tables.
-// In a file of its own, so that definitions may name it.
-ghost use Rattle.std.specs.Prelude.{◌≡◌, ◌%◌, ◌≤◌, length, take, drop, replicate};
-ghost use Rattle.model.specs.Layouts.{sum, place};
+// The layout as a fitted stick keeps it: its value is the model's layout.
+// Fixed memory holds what it tables, and its invariant bounds that.
+ghost use Rattle.std.specs.Prelude.{◌≡◌, ◌%◌, ◌<◌, ◌≤◌, length, nat_lt};
+ghost use Rattle.model.specs.Bulk.{place_at};
+ghost use Rattle.model.specs.Layouts.{sum};
 
+use arrayvec::ArrayVec;
 use model::layout::Place;
+use model::limits::{MOST_INTERFACES, MOST_UNITS};
+use std::marker::Model;
 
-pub const MOST_INTERFACES: usize = 4;
-
-pub const MOST_UNITS: usize = 16;
-
-#[derive(Clone, Copy)]
+#[derive(Clone, Drop)]
 pub struct Layout {
     pub vendor: u16,
     pub product_base: u16,
     pub release: u16,
-    pub interface_count: usize,
-    pub unit_counts: [u8; 4],
-    pub unit_count: usize,
-    pub places: [Place; 16],
-    ghost few_interfaces: { interface_count ≤ 4 },
-    ghost each_counted: { interface_count ≤ length unit_counts },
-    ghost few_units: { unit_count ≤ 16 },
-    ghost all_units: { unit_count ≡ sum (take interface_count unit_counts) },
-    ghost no_more_counts: { drop interface_count unit_counts ≡ drop interface_count (replicate 4 0) },
-    ghost no_more_places: { drop unit_count places ≡ drop unit_count (replicate 16 (place 0 0)) },
-    ghost aligned: { product_base % 16 ≡ 0 },
+    pub unit_counts: ArrayVec<u8, MOST_INTERFACES>,
+    pub places: ArrayVec<Place, MOST_UNITS>,
+}
+
+// What the invariant bounds is said in clauses too: outside this crate a proof sees the value, and not what is behind it.
+impl Model for Layout {
+    ghost use Rattle.std.specs.Prelude.{◌≡◌, ◌%◌, ◌≤◌, length};
+    ghost use Rattle.model.specs.Layouts.{Layout as Tables, layout, sum};
+
+    ghost Value = { Tables };
+
+    ghost view = { λ l. layout l.vendor l.product_base l.release l.unit_counts.items l.places.items };
+
+    ghost invariant = { λ l. (l.product_base % 16 ≡ 0) × (length l.places.items ≡ sum l.unit_counts.items)
+        × (length l.unit_counts.items ≤ 4) × (length l.places.items ≤ 16) };
+
+    ghost inverse = { λ v. record {
+      vendor = v.vendor;
+      product_base = v.base;
+      release = v.release;
+      unit_counts = record { items = v.counts };
+      places = record { items = v.places };
+    } };
+}
+
+impl Layout {
+    // idVendor
+    pub fn vendor(&self) -> u16
+        ensures { result ≡ self.now.vendor }
+    {
+        self.vendor
+    }
+
+    // What idProduct is while no interface is Negotiable.
+    pub fn product_base(&self) -> u16
+        ensures value { result ≡ self.now.base }
+        ensures aligned { result % 16 ≡ 0 }
+    {
+        self.product_base
+    }
+
+    // bcdDevice
+    pub fn release(&self) -> u16
+        ensures { result ≡ self.now.release }
+    {
+        self.release
+    }
+
+    // Whether there is an interface with this number.
+    pub fn has_interface(&self, interface: u8) -> bool
+        ensures { result ≡ nat_lt interface (length self.now.counts) }
+    {
+        usize::from(interface) < self.unit_counts.len()
+    }
+
+    // How many units each interface has.
+    pub fn unit_counts(&self) -> &[u8]
+        ensures value { result.now ≡ self.now.counts }
+        ensures few { length result.now ≤ 4 }
+        ensures total { sum result.now ≡ length self.now.places }
+        ensures bound { sum result.now ≤ 16 }
+    {
+        self.unit_counts.as_slice()
+    }
+
+    // The units of all interfaces.
+    pub fn unit_count(&self) -> usize
+        ensures value { result ≡ length self.now.places }
+        ensures total { result ≡ sum self.now.counts }
+        ensures few { result ≤ 16 }
+    {
+        self.places.len()
+    }
+
+    // Where a unit lies, by its number in the whole stick; past the last unit there are no blocks.
+    pub fn place(&self, unit: usize) -> Place
+        ensures { result ≡ place_at self.now unit }
+    {
+        self.places.get(unit).copied().unwrap_or_default()
+    }
 }

@@ -1,11 +1,11 @@
 -- The line that is written for an event says that event.
-use Rattle.std.proofs.Common.{◌≡◌, ℕ, ◌+◌, ◌*◌, ◌/◌, ◌%◌, ◌<◌, List, [], ◌∷◌, ◌++◌, length, Ok, sym, refl, ap, ◌∙◌, arith}
+use Rattle.std.proofs.Common.{◌≡◌, ℕ, ◌+◌, ◌*◌, ◌/◌, ◌%◌, ◌<◌, List, [], ◌∷◌, ◌++◌, length, Some, Ok, sym, refl, ap, ◌∙◌, arith}
 use Rattle.std.specs.List.{AllByRecursion}
 use Rattle.std.proofs.lemmas.List.{append-nil}
 use Rattle.std.proofs.lemmas.Bool.Decides.{nat_tests}
 use Rattle.model.specs.Events.{control, bulk, work, clock, reset, suspend, resume, power}
 use Rattle.fields.specs.Hexadecimal.{digit_char, hex_text}
-use Rattle.lines.specs.Lines.{event, and_then, four_bytes, words_said}
+use Rattle.lines.specs.Lines.{and_then, four_bytes, words_said}
 use Rattle.fields.specs.Words.{words}
 use Rattle.fields.specs.Laws.{Bytes}
 use Rattle.lines.specs.Laws.{field_text, clock_bytes, Sayable, EventsReadBack}
@@ -29,19 +29,19 @@ words_field before [] = ap words (append-nil before) ∙ sym (append-nil (words 
 words_field before (b ∷ bs) =
     words_parted before (hex_text (b ∷ bs)) ∙ ap (λ ws. words before ++ ws) (words_whole (hex_text (b ∷ bs)) (omega arith) (hex_dark (b ∷ bs)))
 
-control_back : (s d : List ℕ) → Sayable (control s d) → words_said ((0x43 ∷ []) ∷ (field_words s ++ field_words d)) ≡ Ok (event (control s d))
+control_back : (s d : List ℕ) → Sayable (control s d) → words_said ((0x43 ∷ []) ∷ (field_words s ++ field_words d)) ≡ Ok (Some (control s d))
 control_back [] d h = absurd (omega (arith, h.0))
 control_back (b ∷ bs) [] h = rw (hex_back (b ∷ bs) h.1)
 control_back (b ∷ bs) (x ∷ xs) h = rw (hex_back (b ∷ bs) h.1, hex_back (x ∷ xs) h.2)
 
 bulk_back : (i : ℕ) (c d : List ℕ) → Sayable (bulk i c d)
-    → words_said ((0x42 ∷ []) ∷ (field_words (i ∷ []) ++ field_words c ++ field_words d)) ≡ Ok (event (bulk i c d))
+    → words_said ((0x42 ∷ []) ∷ (field_words (i ∷ []) ++ field_words c ++ field_words d)) ≡ Ok (Some (bulk i c d))
 bulk_back i [] d h = absurd (omega (arith, h.1))
 bulk_back i (b ∷ bs) [] h = rw (hex_back (i ∷ []) (h.0, tt), hex_back (b ∷ bs) h.2)
 bulk_back i (b ∷ bs) (x ∷ xs) h = rw (hex_back (i ∷ []) (h.0, tt), hex_back (b ∷ bs) h.2, hex_back (x ∷ xs) h.3)
 
 clock_back : (bs : List ℕ) → 0 < length bs → Bytes bs
-    → words_said ((0x54 ∷ []) ∷ field_words bs) ≡ and_then (and_then (four_bytes bs) (λ ms. Ok (clock ms))) (λ h. Ok (event h))
+    → words_said ((0x54 ∷ []) ∷ field_words bs) ≡ and_then (and_then (four_bytes bs) (λ ms. Ok (clock ms))) (λ h. Ok (Some h))
 clock_back [] some all = absurd (omega arith)
 clock_back (b ∷ bs) some all = rw (hex_back (b ∷ bs) all)
 
@@ -60,7 +60,7 @@ events_back (clock ms) h =
     let n : ms / 16777216 * 16777216 + ms / 65536 % 256 * 65536 + ms / 256 % 256 * 256 + ms % 256 ≡ ms = omega arith in
     ap words_said (words_field (0x54 ∷ []) bs)
     ∙ clock_back bs (omega arith) (omega arith, (omega arith, (omega arith, (omega arith, tt))))
-    ∙ ap (λ k. Ok (event (clock k))) n
+    ∙ ap (λ k. Ok (Some (clock k))) n
 events_back reset h = refl
 events_back suspend h = refl
 events_back resume h = refl

@@ -1,9 +1,9 @@
 -- The law above the definitions: what is written in the script's form is read as it was meant.
-use Rattle.std.specs.Prelude.{◌≡◌, ℕ, ◌/◌, ◌%◌, ◌^◌, ◌<◌, List, [], ◌∷◌, ◌++◌, length, Ok}
+use Rattle.std.specs.Prelude.{◌≡◌, ℕ, ◌/◌, ◌%◌, ◌^◌, ◌<◌, List, [], ◌∷◌, ◌++◌, length, Some, Ok}
 use Rattle.model.specs.Events.{Event as Happening, control, bulk, work, clock, reset, suspend, resume, power}
 use Rattle.fields.specs.Hexadecimal.{hex_text}
 use Rattle.fields.specs.Laws.{Bytes}
-use Rattle.lines.specs.Lines.{event, line_said}
+use Rattle.lines.specs.Lines.{line_said}
 
 -- a field behind its blank; one without bytes is left out
 abbrev pub field_text : List ℕ → List ℕ
@@ -37,4 +37,4 @@ Sayable resume = Unit {0}
 Sayable power = Unit {0}
 
 abbrev pub EventsReadBack : Type 0
-EventsReadBack = (h : Happening) → Sayable h → line_said (line_text h) ≡ Ok (event h)
+EventsReadBack = (h : Happening) → Sayable h → line_said (line_text h) ≡ Ok (Some h)

@@ -1,27 +1,21 @@
 -- What a line of the script says. Of several mistakes one is reported, the first in this order: the letter; a field missing or too many;
 -- then field by field from left to right a character that is no digit, an odd number of digits, and the width of an interface or a clock.
-use Rattle.std.specs.Prelude.{ℕ, ◌+◌, ◌*◌, cond, List, [], ◌∷◌, Ok, Err, Result, ◌==◌}
-use Rattle.events.specs.Happenings.{event_of}
+use Rattle.std.specs.Prelude.{ℕ, ◌+◌, ◌*◌, cond, List, [], ◌∷◌, Some, None, Ok, Err, Option, Result, ◌==◌}
 use Rattle.model.specs.Events.{Event as Happening, control, bulk, work, clock, reset, suspend, resume, power}
 use Rattle.fields.specs.Hexadecimal.{hex_bytes}
 use Rattle.fields.specs.Words.{words}
 use Rattle.fields.specs.declared.error.LineError.{LineError}
 use Rattle.fields.specs.declared.error.LineError.TheVariants.{UnknownLetter, MissingField, TooManyFields, InterfaceWidth, ClockWidth}
-use Rattle.lines.specs.declared.line.Line.{Line}
-use Rattle.lines.specs.declared.line.Line.TheVariants.{Blank, Event as EventLine}
-
-pub data Said : Type 0 where
-  blank : Said
-  event : Happening → Said
-
-abbrev pub said : Line → Said
-said Blank = blank
-said (EventLine e) = event (event_of e)
 
 -- the first mistake ends it
 abbrev pub and_then : {X Y : Type 0} → Result X LineError → (X → Result Y LineError) → Result Y LineError
 and_then (Err e) f = Err e
 and_then (Ok x) f = f x
+
+-- no field more
+abbrev pub end_said : List (List ℕ) → Result (Unit {0}) LineError
+end_said [] = Ok tt
+end_said (w ∷ ws) = Err TooManyFields
 
 -- a last field that may be left out, and is empty then
 abbrev pub optional : List (List ℕ) → Result (List ℕ) LineError
@@ -91,12 +85,12 @@ event_said letter ws =
     (cond (letter == 0x55) (plain_said resume ws)
     (cond (letter == 0x50) (plain_said power ws) (Err UnknownLetter))))))))
 
--- the first word is one letter; no word is empty
-abbrev pub words_said : List (List ℕ) → Result Said LineError
-words_said [] = Ok blank
+-- no event where there is no word; else the first word is one letter, and no word is empty
+abbrev pub words_said : List (List ℕ) → Result (Option Happening) LineError
+words_said [] = Ok None
 words_said ([] ∷ ws) = Err UnknownLetter
-words_said ((letter ∷ []) ∷ ws) = and_then (event_said letter ws) (λ h. Ok (event h))
+words_said ((letter ∷ []) ∷ ws) = and_then (event_said letter ws) (λ h. Ok (Some h))
 words_said ((c ∷ d ∷ cs) ∷ ws) = Err UnknownLetter
 
-abbrev pub line_said : List ℕ → Result Said LineError
+abbrev pub line_said : List ℕ → Result (Option Happening) LineError
 line_said cs = words_said (words cs)

@@ -1,9 +1,11 @@
 // Reads a line of the script: a letter, then hexadecimal fields, with blanks between them.
 // Every line is blank, an event or a mistake of one named kind.
+ghost use Rattle.std.specs.Prelude.{◌≡◌, [], OnOk};
+ghost use Rattle.std.specs.Option.{option_map};
 ghost use Rattle.events.specs.Happenings.{event_of};
 ghost use Rattle.fields.specs.Words.{words};
 ghost use Rattle.fields.specs.Readings.{Reads};
-ghost use Rattle.lines.specs.Lines.{said, optional, control_said, interface_said, bulk_said, milliseconds_said, clock_said, plain_said, event_said, line_said};
+ghost use Rattle.lines.specs.Lines.{end_said, optional, control_said, interface_said, bulk_said, milliseconds_said, clock_said, plain_said, event_said, line_said};
 
 use events::Event;
 use fields::digits::read_field;
@@ -11,10 +13,12 @@ use fields::error::LineError;
 use fields::words::first_word;
 use std::alloc::Global;
 
-#[derive(Drop)]
-pub enum Line {
-    Blank,
-    Event(Event),
+// Where no field may follow.
+fn ended(fields: &[u8]) -> Result<(), LineError>
+    ensures said { result ≡ end_said (words fields.now) }
+    ensures none { OnOk result (words fields.now ≡ []) }
+{
+    first_word(fields).map_or(Ok(()), |_| Err(LineError::TooManyFields))
 }
 
 // The last field of an event that may be left out; it is empty then.
@@ -24,19 +28,15 @@ fn optional_field(fields: &[u8]) -> Result<&[u8], LineError>
     let Some((field, rest)) = first_word(fields) else {
         return Ok(&[]);
     };
-    match first_word(rest) {
-        None => Ok(field),
-        Some(_) => Err(LineError::TooManyFields),
-    }
+    ended(rest)?;
+    Ok(field)
 }
 
 // `C setup [data]`
 fn read_control(heap: Global, fields: &[u8]) -> Result<Event, LineError>
     ensures { Reads event_of result (control_said (words fields.now)) }
 {
-    let Some((setup, rest)) = first_word(fields) else {
-        return Err(LineError::MissingField);
-    };
+    let (setup, rest) = first_word(fields).ok_or(LineError::MissingField)?;
     let data = optional_field(rest)?;
     let setup = read_field(heap, setup)?;
     let data = read_field(heap, data)?;
@@ -57,12 +57,8 @@ fn read_interface(heap: Global, field: &[u8]) -> Result<u8, LineError>
 fn read_bulk(heap: Global, fields: &[u8]) -> Result<Event, LineError>
     ensures { Reads event_of result (bulk_said (words fields.now)) }
 {
-    let Some((interface, rest)) = first_word(fields) else {
-        return Err(LineError::MissingField);
-    };
-    let Some((cbw, rest)) = first_word(rest) else {
-        return Err(LineError::MissingField);
-    };
+    let (interface, rest) = first_word(fields).ok_or(LineError::MissingField)?;
+    let (cbw, rest) = first_word(rest).ok_or(LineError::MissingField)?;
     let data = optional_field(rest)?;
     let interface = read_interface(heap, interface)?;
     let cbw = read_field(heap, cbw)?;
@@ -88,25 +84,18 @@ fn read_milliseconds(heap: Global, field: &[u8]) -> Result<u32, LineError>
 fn read_clock(heap: Global, fields: &[u8]) -> Result<Event, LineError>
     ensures { Reads event_of result (clock_said (words fields.now)) }
 {
-    let Some((clock, rest)) = first_word(fields) else {
-        return Err(LineError::MissingField);
-    };
-    match first_word(rest) {
-        None => Ok(Event::Clock {
-            milliseconds: read_milliseconds(heap, clock)?,
-        }),
-        Some(_) => Err(LineError::TooManyFields),
-    }
+    let (clock, rest) = first_word(fields).ok_or(LineError::MissingField)?;
+    ended(rest)?;
+    let milliseconds = read_milliseconds(heap, clock)?;
+    Ok(Event::Clock { milliseconds })
 }
 
 // An event that has no field.
 fn read_plain(event: Event, fields: &[u8]) -> Result<Event, LineError>
     ensures { Reads event_of result (plain_said (event_of event) (words fields.now)) }
 {
-    match first_word(fields) {
-        None => Ok(event),
-        Some(_) => Err(LineError::TooManyFields),
-    }
+    ended(fields)?;
+    Ok(event)
 }
 
 // The event of a letter, with the fields that follow it.
@@ -126,15 +115,15 @@ fn read_event(heap: Global, letter: char, fields: &[u8]) -> Result<Event, LineEr
     }
 }
 
-// What a line says; its newline is not part of it.
-pub fn read_line(heap: Global, line: &[u8]) -> Result<Line, LineError>
-    ensures { Reads said result (line_said line.now) }
+// The event that a line says, none where it is blank; its newline is not part of it.
+pub fn read_line(heap: Global, line: &[u8]) -> Result<Option<Event>, LineError>
+    ensures { Reads (option_map event_of) result (line_said line.now) }
 {
     let Some((word, fields)) = first_word(line) else {
-        return Ok(Line::Blank);
+        return Ok(None);
     };
     match word {
-        [letter] => Ok(Line::Event(read_event(heap, *letter as char, fields)?)),
+        [letter] => Ok(Some(read_event(heap, *letter as char, fields)?)),
         _ => Err(LineError::UnknownLetter),
     }
 }

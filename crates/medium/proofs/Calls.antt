@@ -37,7 +37,7 @@ way m b n =
     (cases_lt b (length m))
 
 -- no call is both accepted and refused
-never_both : (r : Result (Unit {0}) Fault) (f : Fault) → r ≡ Ok tt → r ≡ Err f → ⊥
+pub never_both : (r : Result (Unit {0}) Fault) (f : Fault) → r ≡ Ok tt → r ≡ Err f → ⊥
 never_both r f p q = let z : ◌≡◌ {A = ℕ} 0 1 = cc in omega arith
 
 -- nor refused for both reasons

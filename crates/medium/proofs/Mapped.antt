@@ -1,6 +1,5 @@
 -- Blocks on the pages of a memory: what they are one by one, which calls they take, and what a write to one page makes of them.
-use Rattle.std.proofs.Common.{◌≡◌, ℕ, ◌+◌, ◌*◌, ◌<◌, ◌≤◌, true, false, cond, ◌⊎◌, List, length, get_or, set, Ok, Err, Result, sym, ap, ◌∙◌, subst, inl, inr, ⊎_elim, arith}
-use borrow.Rule.Slice.PartMut.{put_mid}
+use Rattle.std.proofs.Common.{◌≡◌, ℕ, ◌+◌, ◌*◌, ◌<◌, ◌≤◌, true, false, cond, ◌⊎◌, List, length, get_or, set, Ok, Err, sym, ap, ◌∙◌, subst, inl, inr, ⊎_elim, arith}
 use Rattle.std.specs.List.{AllByRecursion}
 use Rattle.std.proofs.lemmas.List.FromFn.{length-map-range_with_len, get_or-map-range_with_len}
 use Rattle.std.proofs.ByRecursion.{All-from_get_or}
@@ -11,6 +10,7 @@ use Rattle.model.specs.declared.refusal.Fault.{Fault}
 use Rattle.model.specs.declared.refusal.Fault.TheVariants.{Outside, Bad}
 use Rattle.model.specs.Blocks.{Block, bad, good, block_answer, Whole, answer, filled, written, page, is_bad, block_on, mapped_blocks}
 use Rattle.medium.specs.Laws.{GoodAt}
+use Rattle.medium.specs.Stored.{with_page}
 use Rattle.medium.proofs.Calls.{way, good_not_bad, answer_outside, answer_at, good_from, read_good, write_good, refused_write}
 use Rattle.medium.proofs.Pages.{length_part, page_same, page_other}
 
@@ -96,10 +96,10 @@ pub write_mapped : (mem : List ℕ) (runs : List BadRun) (at at' : ℕ → ℕ) 
     → 512 * p + 512 ≤ length mem
     → at' b ≡ p
     → ((k : ℕ) → k < n → (k ≡ b → ⊥) → (at' k ≡ at k) × (at k ≡ p → ⊥))
-    → mapped_blocks (put_mid (512 * p) 512 mem bs) runs at' n ≡ written (mapped_blocks mem runs at n) b bs
+    → mapped_blocks (with_page mem p bs) runs at' n ≡ written (mapped_blocks mem runs at n) b bs
 write_mapped mem runs at at' n b p bs ok room here there =
     let a = accepted mem runs at n b (length bs) ok in
-    let mem' = put_mid (512 * p) 512 mem bs in
+    let mem' = with_page mem p bs in
     let m = mapped_blocks mem runs at n in
     let i : b < length m = inside mem runs at n b a.within in
     same_lists _ _
@@ -132,8 +132,3 @@ mapped_same mem runs at at' n same =
     (λ k d j.
     let lt : k < n = subst (λ (x : ℕ). k < x) (length_mapped mem runs at n) j in
     getD_mapped mem runs at n k d lt ∙ ap (block_on mem runs k) (same k lt) ∙ sym (getD_mapped mem runs at' n k d lt))
-
--- an answer over a copy of the runs is the answer over the runs
-pub at_runs : {r : Result (Unit {0}) Fault} (mem : List ℕ) (copy runs : List BadRun) (at : ℕ → ℕ) (n b l : ℕ) → copy ≡ runs
-    → r ≡ answer (mapped_blocks mem copy at n) b l → r ≡ answer (mapped_blocks mem runs at n) b l
-at_runs mem copy runs at n b l same e = e ∙ ap (λ rs. answer (mapped_blocks mem rs at n) b l) same

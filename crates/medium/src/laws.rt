@@ -3,8 +3,6 @@
 ghost use Rattle.medium.specs.Laws.{MediumLaws};
 
 // What is written is read back, nothing else changes, and what is refused changes nothing.
-pub fn laws_hold() -> u8
+pub fn laws_hold()
     ensures { MediumLaws }
-{
-    0
-}
+{}

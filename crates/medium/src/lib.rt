@@ -6,15 +6,18 @@ pub mod admission;
 pub mod bad_runs;
 pub mod laws;
 pub mod rules;
+pub mod store;
 
-ghost use Rattle.std.specs.Prelude.{◌≡◌, ◌≤◌, List, length};
+ghost use Rattle.std.specs.Prelude.{◌≡◌, ℕ, ◌≤◌, List, length, if◌then◌else◌, Ok, Err};
 ghost use Rattle.std.specs.List.{AllByRecursion};
-ghost use Rattle.model.specs.Blocks.{Block, Whole, answer, filled, written};
+ghost use Rattle.model.specs.Blocks.{Block, Whole, answer, filled, written, medium_rules, fitted_blocks};
+ghost use Rattle.model.specs.declared.refusal.Refusal.TheVariants.{Medium as BadMedium};
 
-use model::refusal::Fault;
+use model::layout::BadRun;
+use model::refusal::{Fault, Refusal};
 
-// The bytes of a block, and of a page of memory.
-pub const PAGE: usize = 512;
+// A page of memory holds a block.
+pub use model::limits::BLOCK_BYTES as PAGE;
 
 // The blocks that a medium may have.
 pub const MOST_BLOCKS: usize = 1024;
@@ -40,4 +43,23 @@ pub trait Medium {
     ghost few: { (s : Self) → length (meaning s) ≤ 1024 };
 
     ghost whole: { (s : Self) → AllByRecursion Whole (meaning s) };
+}
+
+// A make of medium, which is fitted to memory in pages: it needs so many pages more than blocks.
+pub trait Fitted: Medium {
+    ghost SPARE: { ℕ };
+
+    const SPARE: u8;
+
+    // Whether a medium of this make can be fitted to the memory and the bad runs.
+    fn inspect(memory: &[u8], runs: &[BadRun]) -> Result<(), Refusal>
+        ensures { result ≡ (if medium_rules SPARE (length memory.now) runs.now then Ok tt else Err BadMedium) }
+    {
+        rules::inspect(Self::SPARE, memory.len(), runs)?;
+        Ok(())
+    }
+
+    // Fits a medium to its memory, with no blocks where a rule is broken.
+    fn fit(memory: Vec<u8>, runs: Vec<BadRun>) -> Self
+        ensures meaning { Self.meaning result ≡ fitted_blocks SPARE memory.items runs.items };
 }

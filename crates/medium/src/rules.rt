@@ -17,9 +17,10 @@ pub fn inspect(spare: u8, bytes: usize, runs: &[BadRun]) -> Result<u32, Refusal>
 {
     let spare = usize::from(spare);
     let pages = bytes / PAGE;
-    if bytes % PAGE != 0 || pages < 1 + spare || pages > MOST_BLOCKS + spare {
+    if bytes % PAGE != 0 || !(1 + spare..=MOST_BLOCKS + spare).contains(&pages) {
         return Err(Refusal::Medium);
     }
+    // `as`, where Rust has no `From`: that the number fits is proved, and a `TryFrom` would add a branch that never runs.
     let blocks = (pages - spare) as u32;
     if runs.len() > MOST_RUNS || !is_sound(runs, blocks) {
         return Err(Refusal::Medium);

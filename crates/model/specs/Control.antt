@@ -116,10 +116,10 @@ put lay ChangeInterfaceAccess i k n ds s = with_interface lay i s (access_sized 
 abbrev pub request : Layout → Request → ℕ → List ℕ → Stick → Outcome
 request lay DeviceDescriptor n ds s = answered n (length ds) (device_descriptor lay s.interfaces) s
 request lay Bundle n ds s = answered n (length ds) (bundle s.interfaces) s
-request lay (LockData i k) n ds s = tell_lock_data lay (find_unit lay i k) i k n (length ds) s
+request lay (LockData a) n ds s = tell_lock_data lay (find_unit lay a.interface a.unit) a.interface a.unit n (length ds) s
 request lay (HighestUnit i) n ds s = with_interface lay i s (tell_highest lay i n (length ds) s)
 request lay (ClearJam i) n ds s = with_interface lay i s (clear_jam i n (length ds) s)
-request lay (PutTo p i k) n ds s = put lay p i k n ds s
+request lay (PutTo p a) n ds s = put lay p a.interface a.unit n ds s
 
 abbrev pub asked : Layout → Option Asked → List ℕ → Stick → Outcome
 asked lay None ds s = refuse Unlisted s

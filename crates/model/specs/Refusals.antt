@@ -1,5 +1,5 @@
 -- The number of each refusal.
-use Rattle.std.specs.Prelude.{ℕ}
+use Rattle.std.specs.Prelude.{ℕ, Ok, Err, Result}
 use Rattle.model.specs.declared.refusal.Refusal.{Refusal}
 use Rattle.model.specs.declared.refusal.Refusal.TheVariants.{Layout, Medium, OutsideMedium, BadBlock, Idle, Gone, Unlisted, Absent, WrongLength, Recovering, WrongState, Malformed, Incorrect, ShortBuffer, Jammed, BadCommandBlock}
 use Rattle.model.specs.declared.refusal.Fault.{Fault}
@@ -22,6 +22,11 @@ refusal_number Incorrect = 13
 refusal_number ShortBuffer = 14
 refusal_number Jammed = 15
 refusal_number BadCommandBlock = 16
+
+-- the number that a call is answered with: 0 where it is accepted
+abbrev pub number_of : Result (Unit {0}) Refusal → ℕ
+number_of (Ok u) = 0
+number_of (Err r) = refusal_number r
 
 -- a medium's fault as a refusal
 abbrev pub fault_refusal : Fault → Refusal

@@ -7,6 +7,7 @@ use Rattle.model.specs.declared.request.Put.TheVariants.{StorePassphrase, MatchP
 use Rattle.model.specs.declared.request.Request.{Request}
 use Rattle.model.specs.declared.request.Request.TheVariants.{DeviceDescriptor, Bundle, LockData, HighestUnit, ClearJam, PutTo}
 use Rattle.model.specs.declared.request.Asked.{Asked}
+use Rattle.model.specs.declared.request.UnitAddress.{UnitAddress}
 use Rattle.model.specs.Refusals.{refusal_number}
 use Rattle.model.specs.declared.refusal.Refusal.TheVariants.{Unlisted, WrongLength}
 
@@ -34,9 +35,13 @@ put_told n =
 abbrev pub is_kind : ℕ → ℕ → List ℕ → Bool
 is_kind t r bs = byte bs 0 == t && byte bs 1 == r
 
+-- unit u of interface i
+abbrev pub address : ℕ → ℕ → UnitAddress
+address i u = record { interface = i; unit = u }
+
 abbrev pub put_to : Option Put → ℕ → ℕ → Option Request
 put_to None i u = None
-put_to (Some p) i u = Some (PutTo p i u)
+put_to (Some p) i u = Some (PutTo p (address i u))
 
 -- the device descriptor is asked for with wValue 0100h, the bundle with 0200h
 abbrev pub descriptor_asked : ℕ → Option Request
@@ -47,7 +52,7 @@ descriptor_asked value = cond (value == 0x0100) (Some DeviceDescriptor) (cond (v
 abbrev pub listed : List ℕ → Option Request
 listed bs =
     cond (is_kind 0x80 0x06 bs && le16 bs 4 == 0) (descriptor_asked (le16 bs 2))
-    (cond (is_kind 0xA1 0xFD bs && byte bs 2 == 0) (Some (LockData (byte bs 4) (byte bs 3)))
+    (cond (is_kind 0xA1 0xFD bs && byte bs 2 == 0) (Some (LockData (address (byte bs 4) (byte bs 3))))
     (cond (is_kind 0xA1 0xFE bs && le16 bs 2 == 0) (Some (HighestUnit (byte bs 4)))
     (cond (is_kind 0x21 0xFF bs && le16 bs 2 == 0) (Some (ClearJam (byte bs 4)))
     (cond (is_kind 0x21 0xFC bs) (put_to (put_told (byte bs 2)) (byte bs 4) (byte bs 3)) None))))
@@ -81,10 +86,10 @@ longest ChangeInterfaceAccess = 12
 abbrev pub length_allowed : Request → ℕ → Bool
 length_allowed DeviceDescriptor n = true
 length_allowed Bundle n = true
-length_allowed (LockData i u) n = true
+length_allowed (LockData a) n = true
 length_allowed (HighestUnit i) n = n == 1
 length_allowed (ClearJam i) n = n == 0
-length_allowed (PutTo p i u) n = between (shortest p) (longest p) n
+length_allowed (PutTo p a) n = between (shortest p) (longest p) n
 
 -- the judgement of a setup by its bytes alone: 7 unlisted, 9 a length that is not allowed, else 0
 abbrev pub judged_request : Option Asked → ℕ

@@ -1,11 +1,31 @@
 // What a command block wrapper (CBW) brings, and how its command ends.
+ghost use Rattle.std.specs.Prelude.{◌≡◌, ok_or};
+ghost use Rattle.model.specs.Wrappers.{direction_told, status_number};
+ghost use Rattle.model.specs.declared.refusal.Refusal.TheVariants.{BadCommandBlock};
+
+use crate::refusal::Refusal;
 use crate::sense::Sense;
 
 // Which way the host says that the data go: out to the stick, or in to the host.
-#[derive(Clone, Copy)]
+#[derive(Clone, Copy, PartialEq, Eq, Debug)]
 pub enum Direction {
     Out,
     In,
+}
+
+// The direction that bmCBWFlags tell.
+impl TryFrom<u8> for Direction {
+    type Error = Refusal;
+
+    ghost try_from_gives = { λ n r. r ≡ ok_or (direction_told n) BadCommandBlock };
+
+    fn try_from(flags: u8) -> Result<Direction, Refusal> {
+        match flags {
+            0x00 => Ok(Direction::Out),
+            0x80 => Ok(Direction::In),
+            _ => Err(Refusal::BadCommandBlock),
+        }
+    }
 }
 
 // What the command asks of its unit.
@@ -39,4 +59,17 @@ pub enum Status {
     Failed,
     // the host and the command disagree on direction or length
     PhaseError,
+}
+
+// bCSWStatus
+impl From<Status> for u8 {
+    ghost from_gives = { λ s n. n ≡ status_number s };
+
+    fn from(status: Status) -> u8 {
+        match status {
+            Status::Passed => 0x00,
+            Status::Failed => 0x01,
+            Status::PhaseError => 0x02,
+        }
+    }
 }

@@ -1,28 +1,57 @@
 // The identity that an interface presents to the host, and what else changes of an interface.
-ghost use Rattle.std.specs.Prelude.{◌≡◌};
-ghost use Rattle.model.specs.Identities.{ids_subclass};
+ghost use Rattle.std.specs.Prelude.{◌≡◌, ok_or};
+ghost use Rattle.model.specs.Identities.{ids_subclass, is_negotiable};
+ghost use Rattle.model.specs.Parts.{target_in};
+ghost use Rattle.model.specs.declared.refusal.Refusal.TheVariants.{Malformed};
+
+use crate::refusal::Refusal;
 
 // Class, subclass and protocol are 08 07 50 (Negotiable) or 08 06 50 (SCSI over Bulk-Only Transport).
-#[derive(Clone, Copy)]
+#[derive(Clone, Copy, PartialEq, Eq, Debug, Default)]
 pub enum Ids {
     Negotiable,
+    #[default]
     ScsiBbb,
 }
 
 impl Ids {
-    // The interface subclass, the one byte in which the two identities differ.
-    pub fn subclass(self) -> u8
-        ensures { result ≡ ids_subclass self }
+    // Whether the interface takes Change Interface Access and Lock Again.
+    pub fn is_negotiable(self) -> bool
+        ensures { result ≡ is_negotiable self }
     {
-        match self {
+        self == Ids::Negotiable
+    }
+}
+
+// The interface subclass, the one byte in which the two identities differ.
+impl From<Ids> for u8 {
+    ghost from_gives = { λ ids n. n ≡ ids_subclass ids };
+
+    fn from(ids: Ids) -> u8 {
+        match ids {
             Ids::Negotiable => 0x07,
             Ids::ScsiBbb => 0x06,
         }
     }
 }
 
+// The identity that access data name by an interface subclass.
+impl TryFrom<u8> for Ids {
+    type Error = Refusal;
+
+    ghost try_from_gives = { λ n r. r ≡ ok_or (target_in n) Malformed };
+
+    fn try_from(subclass: u8) -> Result<Ids, Refusal> {
+        match subclass {
+            0x07 => Ok(Ids::Negotiable),
+            0x06 => Ok(Ids::ScsiBbb),
+            _ => Err(Refusal::Malformed),
+        }
+    }
+}
+
 // One interface of a running stick.
-#[derive(Clone, Copy)]
+#[derive(Clone, Copy, Default)]
 pub struct Interface {
     pub ids: Ids,
     // a jammed interface takes no bulk command until the jam is cleared
@@ -30,6 +59,7 @@ pub struct Interface {
 }
 
 // An interface change under way: the stick idles, then is gone, then presents the target.
+// A struct in two of the cases is no plainer: interface, target and times are the phase itself, and the clock alone takes it apart.
 #[derive(Clone, Copy)]
 pub enum Phase {
     Present,

@@ -5,6 +5,7 @@
 pub mod command;
 pub mod ids;
 pub mod layout;
+pub mod limits;
 pub mod lock;
 pub mod part;
 pub mod refusal;

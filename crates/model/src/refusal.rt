@@ -1,6 +1,6 @@
 // Why a call is turned down, each reason with its number.
 ghost use Rattle.std.specs.Prelude.{◌≡◌};
-ghost use Rattle.model.specs.Refusals.{refusal_number, fault_refusal};
+ghost use Rattle.model.specs.Refusals.{refusal_number, number_of, fault_refusal};
 
 #[derive(Clone, Copy, PartialEq, Eq, Debug)]
 pub enum Refusal {
@@ -38,12 +38,12 @@ pub enum Refusal {
     BadCommandBlock,
 }
 
-impl Refusal {
-    // The number that is reported for a refusal.
-    pub fn number(self) -> u8
-        ensures { result ≡ refusal_number self }
-    {
-        match self {
+// The number that is reported for a refusal.
+impl From<Refusal> for u8 {
+    ghost from_gives = { λ r n. n ≡ refusal_number r };
+
+    fn from(refusal: Refusal) -> u8 {
+        match refusal {
             Refusal::Layout => 1,
             Refusal::Medium => 2,
             Refusal::OutsideMedium => 3,
@@ -62,6 +62,13 @@ impl Refusal {
             Refusal::BadCommandBlock => 16,
         }
     }
+}
+
+// The number that a call is answered with: 0 where it is accepted.
+pub fn number_of(answer: Result<(), Refusal>) -> u8
+    ensures { result ≡ number_of answer }
+{
+    answer.map_or_else(u8::from, |()| 0)
 }
 
 // Why a medium turns a read or a write down.

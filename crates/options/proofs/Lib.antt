@@ -1,3 +1,2 @@
 pub mod Arguments
-pub mod Texts
-pub mod Unread
+pub mod Once

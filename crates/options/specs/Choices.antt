@@ -75,6 +75,11 @@ name_said w =
     (cond (bytes_eq w (codes "--blocks")) (Some Blocks)
     (cond (bytes_eq w (codes "--bad")) (Some Bad) None)))
 
+-- a name that has to be one of these
+abbrev pub known : Option Name → Result Name Mistake
+known None = Err UnknownOption
+known (Some n) = Ok n
+
 abbrev pub option_said : Name → List ℕ → Choice → Result Choice Mistake
 option_said Layout value c = layout_chosen value c
 option_said Medium value c = make_chosen value c

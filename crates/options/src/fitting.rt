@@ -1,31 +1,61 @@
 // Whether the stick that the options say can be fitted.
 // The medium is inspected before the layout, which needs its number of blocks.
-ghost use Rattle.std.specs.Prelude.{◌≡◌, length};
+ghost use Rattle.std.specs.Prelude.{◌≡◌, Some, length, vec_items};
 ghost use Rattle.model.specs.Refusals.{refusal_number};
 ghost use Rattle.options.specs.Choices.{fit_of};
-ghost use Rattle.options.specs.Fits.{spare, memory_said, medium_inspected, inspected, reason_text};
+ghost use Rattle.options.specs.Fits.{spare, memory_said, inspected, memory_fit, FitsZeros, reason_text, fit_error_text};
+ghost use Rattle.options.specs.declared.choice.FitError.TheVariants.{Refused, OutOfMemory};
 
-use crate::choice::{Fit, Make};
-use medium::{MOST_BLOCKS, PAGE};
-use model::layout::BadRun;
+use crate::choice::{Fit, FitError, Make};
+use medium::{Fitted, MOST_BLOCKS, PAGE};
 use model::refusal::Refusal;
+use std::alloc::{AllocError, Global};
+use std::error::Error;
+use std::fmt;
+use straight::Straight;
+use turning::Turning;
 
-// A turning medium has one page more than blocks.
-fn spare_pages(make: Make) -> usize
+// The pages that a make needs more than blocks.
+fn spare_pages(make: Make) -> u8
     ensures { result ≡ spare make }
 {
     match make {
-        Make::Straight => 0,
-        Make::Turning => 1,
+        Make::Straight => Straight::SPARE,
+        Make::Turning => Turning::SPARE,
     }
 }
 
-fn inspect_medium(make: Make, memory: &[u8], runs: &[BadRun]) -> Result<(), Refusal>
-    ensures { result ≡ medium_inspected make (length memory.now) runs.now }
-{
-    match make {
-        Make::Straight => straight::inspect(memory, runs),
-        Make::Turning => turning::inspect(memory, runs),
+// Written by hand: a derive does not state the text, and a contract names it.
+impl fmt::Display for FitError {
+    ghost output = { λ e. Some (fit_error_text e) };
+
+    fn fmt<W: fmt::Write>(&self, f: &mut fmt::Formatter<W>) -> fmt::Result {
+        match self {
+            FitError::Refused(refusal) => {
+                let number = u8::from(*refusal);
+                let reason = reason(*refusal);
+                write!(f, "refused {number}: {reason}")
+            }
+            FitError::OutOfMemory => write!(f, "there is no memory for the medium"),
+        }
+    }
+}
+
+impl Error for FitError {}
+
+impl From<Refusal> for FitError {
+    ghost from_gives = { λ refusal e. e ≡ Refused refusal };
+
+    fn from(refusal: Refusal) -> FitError {
+        FitError::Refused(refusal)
+    }
+}
+
+impl From<AllocError> for FitError {
+    ghost from_gives = { λ _ e. e ≡ OutOfMemory };
+
+    fn from(_error: AllocError) -> FitError {
+        FitError::OutOfMemory
     }
 }
 
@@ -38,15 +68,25 @@ impl Fit {
         if blocks > MOST_BLOCKS {
             return Err(Refusal::Medium);
         }
-        Ok(PAGE * (blocks + spare_pages(self.make)))
+        Ok(PAGE * (blocks + usize::from(spare_pages(self.make))))
     }
 
     // Inspects the medium on this memory, then the layout.
     pub fn inspect(&self, memory: &[u8]) -> Result<(), Refusal>
         ensures { result ≡ inspected (fit_of self.now) (length memory.now) }
     {
-        inspect_medium(self.make, memory, self.runs.as_slice())?;
+        medium::rules::inspect(spare_pages(self.make), memory.len(), self.runs.as_slice())?;
         layout::read::inspect(self.layout.as_slice(), self.blocks)
+    }
+
+    // Memory of zeros on which the stick passes inspection.
+    pub fn zeroed_memory(&self, heap: Global) -> Result<Vec<u8>, FitError>
+        ensures { FitsZeros vec_items result (memory_fit (fit_of self.now)) }
+    {
+        let bytes = self.memory_bytes()?;
+        let memory = vec![in heap; 0; bytes]?;
+        self.inspect(memory.as_slice())?;
+        Ok(memory)
     }
 }
 
@@ -54,9 +94,23 @@ impl Fit {
 pub fn reason(refusal: Refusal) -> &'static str
     ensures { result.now ≡ reason_text (refusal_number refusal) }
 {
-    if refusal.number() == Refusal::Layout.number() {
-        "the layout breaks a rule"
-    } else {
-        "the medium breaks a rule"
+    match refusal {
+        Refusal::Layout => "the layout breaks a rule",
+        _ => "the medium breaks a rule",
+    }
+}
+
+#[cfg(test)]
+mod tests {
+    use super::*;
+    use crate::read::read_options;
+    use std::test::Fail;
+
+    #[test]
+    fn memory_of_the_own_stick(rt: HostRuntime) -> Result<(), Fail> {
+        let fit = read_options(rt.alloc(), &[]);
+        let memory = fit.map(|fit| fit.zeroed_memory(rt.alloc()));
+        assert!(rt; matches!(&memory, Ok(Ok(bytes)) if bytes.len() == 32768));
+        Ok(())
     }
 }

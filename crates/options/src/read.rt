@@ -13,22 +13,11 @@ pub const USAGE: &str =
     "usage: bench [--layout HEX] [--medium straight|turning] [--blocks N] [--bad START:LENGTH,START:LENGTH]";
 
 // The bench's own stick: 64 straight good blocks, and one unit on the first 40; all its IDs are 0.
-const OWN_LAYOUT: [u8; 16] = [0, 0, 0, 0, 0, 0, 1, 1, 0, 0, 0, 0, 40, 0, 0, 0];
+pub const OWN_LAYOUT: [u8; 16] = [0, 0, 0, 0, 0, 0, 1, 1, 0, 0, 0, 0, 40, 0, 0, 0];
 
-const OWN_BLOCKS: u32 = 64;
+pub const OWN_BLOCKS: u32 = 64;
 
 impl Chosen {
-    fn nothing() -> Chosen
-        ensures { choice_of result ≡ nothing }
-    {
-        Chosen {
-            layout: None,
-            make: None,
-            blocks: None,
-            runs: None,
-        }
-    }
-
     // The bench's own fills what was not chosen.
     fn filled(self, heap: Global) -> Result<Fit, AllocError>
         ensures { IfOk result (λ f. fit_of f ≡ filled (choice_of self)) }
@@ -55,8 +44,9 @@ impl Chosen {
 fn choose(heap: Global, words: &[String]) -> Result<Chosen, Mistake>
     ensures { Reads choice_of result (choices_said (map string_bytes words.now) nothing) }
 {
-    let mut chosen = Chosen::nothing();
+    let mut chosen = Chosen::default();
     let mut rest = words;
+    // Two words at a time: with `as_chunks` the word that is left over would be matched all the same.
     while let [word, value, tail @ ..] = rest {
         chosen.take(heap, word.as_str(), value.as_str())?;
         rest = tail;

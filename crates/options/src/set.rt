@@ -1,35 +1,51 @@
 // One option of the command line, by its name.
 // Each is given once at most.
-ghost use Rattle.std.specs.Prelude.{◌≡◌};
-ghost use Rattle.options.specs.Choices.{choice_of, name_said, make_said, lone_word, layout_chosen, make_chosen, blocks_chosen, runs_chosen, option_said, named};
+ghost use Rattle.std.specs.Prelude.{◌≡◌, true, Some, None, Ok, Err, is_some, vec_items, IfOk, IfErr, OnErr};
+ghost use Rattle.options.specs.Choices.{choice_of, formed, in_hex, name_said, lone_word, named};
+ghost use Rattle.fields.specs.Hexadecimal.{hex_bytes};
+ghost use Rattle.values.specs.Decimals.{decimal_said};
 ghost use Rattle.values.specs.Mistakes.{Reads};
+ghost use Rattle.values.specs.declared.error.Mistake.TheVariants.{RepeatedOption};
 
 use crate::choice::{Chosen, Make, Name};
 use fields::digits::read_field;
 use std::alloc::Global;
+use std::str::FromStr;
 use values::decimal::read_decimal;
 use values::error::Mistake;
 use values::runs::read_runs;
 
-fn name_of(word: &str) -> Option<Name>
-    ensures { result ≡ name_said word.now }
-{
-    match word {
-        "--layout" => Some(Name::Layout),
-        "--medium" => Some(Name::Medium),
-        "--blocks" => Some(Name::Blocks),
-        "--bad" => Some(Name::Bad),
-        _ => None,
+impl FromStr for Name {
+    type Err = Mistake;
+
+    ghost use Rattle.options.specs.Choices.{known, name_said};
+
+    ghost from_str_gives = { λ word r. r ≡ known (name_said word) };
+
+    fn from_str(word: &str) -> Result<Name, Mistake> {
+        match word {
+            "--layout" => Ok(Name::Layout),
+            "--medium" => Ok(Name::Medium),
+            "--blocks" => Ok(Name::Blocks),
+            "--bad" => Ok(Name::Bad),
+            _ => Err(Mistake::UnknownOption),
+        }
     }
 }
 
-fn make_of(word: &str) -> Option<Make>
-    ensures { result ≡ make_said word.now }
-{
-    match word {
-        "straight" => Some(Make::Straight),
-        "turning" => Some(Make::Turning),
-        _ => None,
+impl FromStr for Make {
+    type Err = Mistake;
+
+    ghost use Rattle.options.specs.Choices.{formed, make_said};
+
+    ghost from_str_gives = { λ word r. r ≡ formed (make_said word) };
+
+    fn from_str(word: &str) -> Result<Make, Mistake> {
+        match word {
+            "straight" => Ok(Make::Straight),
+            "turning" => Ok(Make::Turning),
+            _ => Err(Mistake::MalformedValue),
+        }
     }
 }
 
@@ -37,72 +53,55 @@ fn make_of(word: &str) -> Option<Make>
 pub(crate) fn lone(word: &str) -> Mistake
     ensures { result ≡ lone_word (name_said word.now) }
 {
-    match name_of(word) {
-        None => Mistake::UnknownOption,
-        Some(_) => Mistake::MissingValue,
+    match word.parse::<Name>() {
+        Ok(_) => Mistake::MissingValue,
+        Err(unknown) => unknown,
     }
 }
 
+// The bytes of a layout.
+fn read_layout(heap: Global, value: &str) -> Result<Vec<u8>, Mistake>
+    ensures { Reads vec_items result (in_hex (hex_bytes value.now)) }
+{
+    Ok(read_field(heap, value.as_bytes())?)
+}
+
+// A number of blocks.
+fn read_blocks(value: &str) -> Result<u32, Mistake>
+    ensures { result ≡ formed (decimal_said value.now) }
+{
+    read_decimal(value.as_bytes()).ok_or(Mistake::MalformedValue)
+}
+
+// Sets what was not given before to what is read then; what was given is kept, and nothing is read.
+fn set_once<T: Drop, F: FnOnce() -> Result<T, Mistake>>(
+    slot: &mut Option<T>,
+    read: F,
+) -> Result<(), Mistake>
+    requires { F.IsAlwaysCallable read }
+    ensures repeated { is_some slot.old ≡ true → result ≡ Err RepeatedOption }
+    ensures unread { slot.old ≡ None → IfErr result (λ m. F.post read (Err m)) }
+    ensures set { IfOk result (λ _. (v : T) × F.post read (Ok v) × (slot.old ≡ None) × (slot.new ≡ Some v)) }
+    ensures kept { OnErr result (slot.new ≡ slot.old) }
+{
+    if slot.is_some() {
+        return Err(Mistake::RepeatedOption);
+    }
+    *slot = Some(read()?);
+    Ok(())
+}
+
 impl Chosen {
-    fn set_layout(&mut self, heap: Global, value: &str) -> Result<(), Mistake>
-        ensures { Reads (λ _. choice_of self.new) result (layout_chosen value.now (choice_of self.old)) }
-    {
-        if self.layout.is_some() {
-            return Err(Mistake::RepeatedOption);
-        }
-        self.layout = Some(read_field(heap, value.as_bytes())?);
-        Ok(())
-    }
-
-    fn set_make(&mut self, value: &str) -> Result<(), Mistake>
-        ensures { Reads (λ _. choice_of self.new) result (make_chosen value.now (choice_of self.old)) }
-    {
-        if self.make.is_some() {
-            return Err(Mistake::RepeatedOption);
-        }
-        self.make = Some(make_of(value).ok_or(Mistake::MalformedValue)?);
-        Ok(())
-    }
-
-    fn set_blocks(&mut self, value: &str) -> Result<(), Mistake>
-        ensures { Reads (λ _. choice_of self.new) result (blocks_chosen value.now (choice_of self.old)) }
-    {
-        if self.blocks.is_some() {
-            return Err(Mistake::RepeatedOption);
-        }
-        self.blocks = Some(read_decimal(value.as_bytes()).ok_or(Mistake::MalformedValue)?);
-        Ok(())
-    }
-
-    fn set_runs(&mut self, heap: Global, value: &str) -> Result<(), Mistake>
-        ensures { Reads (λ _. choice_of self.new) result (runs_chosen value.now (choice_of self.old)) }
-    {
-        if self.runs.is_some() {
-            return Err(Mistake::RepeatedOption);
-        }
-        self.runs = Some(read_runs(heap, value.as_bytes())?);
-        Ok(())
-    }
-
-    // The option of this name, with its value.
-    fn set_option(&mut self, heap: Global, name: Name, value: &str) -> Result<(), Mistake>
-        ensures { Reads (λ _. choice_of self.new) result (option_said name value.now (choice_of self.old)) }
-    {
-        match name {
-            Name::Layout => self.set_layout(heap, value),
-            Name::Medium => self.set_make(value),
-            Name::Blocks => self.set_blocks(value),
-            Name::Bad => self.set_runs(heap, value),
-        }
-    }
-
     // An argument and the one behind it.
     pub(crate) fn take(&mut self, heap: Global, word: &str, value: &str) -> Result<(), Mistake>
-        ensures { Reads (λ _. choice_of self.new) result (named (name_said word.now) value.now (choice_of self.old)) }
+        ensures said { Reads (λ _. choice_of self.new) result (named (name_said word.now) value.now (choice_of self.old)) }
+        ensures kept { OnErr result (choice_of self.new ≡ choice_of self.old) }
     {
-        match name_of(word) {
-            None => Err(Mistake::UnknownOption),
-            Some(name) => self.set_option(heap, name, value),
+        match word.parse()? {
+            Name::Layout => set_once(&mut self.layout, || read_layout(heap, value)),
+            Name::Medium => set_once(&mut self.make, || value.parse()),
+            Name::Blocks => set_once(&mut self.blocks, || read_blocks(value)),
+            Name::Bad => set_once(&mut self.runs, || read_runs(heap, value.as_bytes())),
         }
     }
 }

@@ -1,5 +1,6 @@
 -- Parts cut one behind the other, and where they end.
-use Rattle.std.proofs.Common.{◌≡◌, ℕ, zero, suc, ◌+◌, ◌-◌, ◌<◌, ◌≤◌, Bool, cond, ◌&&◌, eqb, List, [], ◌∷◌, length, get_or, take, Some, None, sym, refl, ap, ◌∙◌, arith}
+use Rattle.std.proofs.Common.{◌≡◌, ℕ, zero, suc, ◌+◌, ◌-◌, ◌<◌, ◌≤◌, Bool, true, false, cond, ◌&&◌, eqb, List, [], ◌∷◌, length, get_or, take, Some, None, sym, refl, ap, ◌∙◌, arith}
+use Rattle.std.specs.Bool.{then_some}
 use Rattle.std.specs.List.{AllByRecursion}
 use Rattle.model.specs.Bytes.{byte}
 use Rattle.model.specs.Extents.{sound}
@@ -30,11 +31,16 @@ take_cut zero m at ds h = refl
 take_cut (suc n) zero at ds h = absurd (omega arith)
 take_cut (suc n) (suc m) at ds h = ap (λ ps. part at (byte ds at) ∷ ps) (take_cut n m (at + byte ds at) ds (omega arith))
 
+then_some_is : (b : Bool) (ps : List Part) → then_some b ps ≡ cond b (Some ps) None
+then_some_is true ps = refl
+then_some_is false ps = refl
+
 -- the test of the first n of m parts tells whether n parts fill the data
-pub fill_told : (n m w : ℕ) (ds : List ℕ) (ps : List Part) (b : Bool) → n ≤ m → w ≡ n → ps ≡ cut_parts m 0 ds
-    → b ≡ (sound part_start part_length 0 (length ds) (take w ps) && eqb (parts_end 0 (take w ps)) (length ds))
-    → cond b (Some ps) None ≡ cond (parts_fill n ds) (Some (cut_parts m 0 ds)) None
-fill_told n m w ds ps b h width cut told =
-    let first : take w ps ≡ cut_parts n 0 ds = ap (λ k. take k ps) width ∙ ap (take n) cut ∙ take_cut n m 0 ds h in
-    ap (λ t. cond t (Some ps) None) (told ∙ ap (λ qs. sound part_start part_length 0 (length ds) qs && eqb (parts_end 0 qs) (length ds)) first)
+pub fill_told : (n m : ℕ) (ds : List ℕ) (ps : List Part) (b : Bool) → n ≤ m → ps ≡ cut_parts m 0 ds
+    → b ≡ (sound part_start part_length 0 (length ds) (take n ps) && eqb (parts_end 0 (take n ps)) (length ds))
+    → then_some b ps ≡ cond (parts_fill n ds) (Some (cut_parts m 0 ds)) None
+fill_told n m ds ps b h cut told =
+    let first : take n ps ≡ cut_parts n 0 ds = ap (take n) cut ∙ take_cut n m 0 ds h in
+    ap (λ t. then_some t ps) (told ∙ ap (λ qs. sound part_start part_length 0 (length ds) qs && eqb (parts_end 0 qs) (length ds)) first)
+    ∙ then_some_is (parts_fill n ds) ps
     ∙ ap (λ qs. cond (parts_fill n ds) (Some qs) None) cut

@@ -29,9 +29,9 @@ malformed ChangeInterfaceAccess = misfit
 abbrev pub put_of : UnitPut → Puts.UnitPut
 put_of code.Misfit = misfit
 put_of (code.Malformed p) = malformed p
-put_of (code.Store p h) = store (weighed_secret p.now h.now)
+put_of (code.Store s) = store (weighed_secret s.phrase.now s.hint.now)
 put_of (code.Match c) = match (Some c.now)
-put_of (code.Change c p h) = change (weighed_change c.now p.now h.now)
+put_of (code.Change c s) = change (weighed_change c.now s.phrase.now s.hint.now)
 put_of (code.Erase c) = erase (Some c.now)
 put_of code.EraseForgotten = forget
 put_of code.LockAgain = lock_again

@@ -1,47 +1,31 @@
 // The parts of a Put's data: candidate, passphrase and hint, each as long as its first byte says.
 // They pass the same order check, and are found by the same search, as runs and units.
-ghost use Rattle.std.specs.Prelude.{◌≡◌, ◌+◌, ◌^◌, ◌<◌, ◌≤◌, true, ◌&&◌, length, take, IfSome, if◌then◌else◌, Some, None, ◌==◌};
+ghost use Rattle.std.specs.Prelude.{◌≡◌, ◌+◌, ◌^◌, ◌<◌, ◌≤◌, true, ◌&&◌, length, take, IfSome, MatchOption, if◌then◌else◌, Some, None, ◌==◌};
 ghost use Rattle.std.specs.Option.{option_map};
 ghost use Rattle.std.specs.List.{AllByRecursion};
 ghost use Rattle.model.specs.Bytes.{byte};
 ghost use Rattle.model.specs.Extents.{Fitting, sound, found, Finds};
 ghost use Rattle.model.specs.Parts.{part, part_start, part_length, cut_parts, parts_end, parts_fill, part_bytes, phrase_in, hint_in, secret_of, change_of, candidate_in, secret_in, change_in};
 ghost use Rattle.model.specs.Puts.{carried};
-ghost use Rattle.parts.specs.Carries.{put_of};
-ghost use Rattle.parts.specs.Secrets.{secret_behind, change_behind};
+ghost use Rattle.parts.specs.Carries.{malformed, put_of};
+ghost use Rattle.parts.specs.Secrets.{secret_behind, change_behind, HasRoom};
+ghost use Rattle.parts.specs.Texts.{text_behind, text_in};
 
-use crate::put::UnitPut;
+use crate::put::{NewSecret, UnitPut};
 use extents::{find, is_sound};
+use model::limits::{HINT_BYTES, LOCKABLE, PHRASE_BYTES};
 use model::part::Part;
 use model::request::Put;
 
-// The descriptor type of the locking protocol: the second byte of Lock Data, of access data and of every part.
-const LOCKABLE: u8 = 0x25;
-
 // The last byte of a candidate or passphrase part.
 const PHRASE_END: u8 = 0x00;
-
-// The longest parts: 50 bytes of a passphrase and 100 of a hint, with the three bytes around them.
-const LONGEST_PHRASE_PART: usize = 53;
-
-const LONGEST_HINT_PART: usize = 103;
-
-// A new passphrase with its hint.
-#[derive(Clone, Copy)]
-struct NewSecret<'a> {
-    phrase: &'a [u8],
-    hint: &'a [u8],
-}
 
 // The part that starts at a byte. Past the end of the data it is empty.
 fn part_at(data: &[u8], at: u32) -> Part
     ensures value { result ≡ part at (byte «data».now at) }
     ensures bound { result.length ≤ 255 }
 {
-    let length = match data.get(at as usize) {
-        Some(byte) => u32::from(*byte),
-        None => 0,
-    };
+    let length = data.get(at as usize).map_or(0, |byte| u32::from(*byte));
     Part { start: at, length }
 }
 
@@ -72,10 +56,8 @@ fn do_fill(parts: &[Part], data: &[u8]) -> bool
     ensures value { result ≡ (sound part_start part_length 0 (length «data».now) parts.now && parts_end 0 parts.now == length «data».now) }
     ensures inside { result ≡ true → AllByRecursion (Fitting part_start part_length (length «data».now)) parts.now }
 {
-    match u32::try_from(data.len()) {
-        Ok(end) => is_sound(parts, end) && parts_end(parts) == u64::from(end),
-        Err(_) => false,
-    }
+    u32::try_from(data.len()).is_ok_and(|end| is_sound(parts, end)
+        && parts_end(parts) == u64::from(end))
 }
 
 // The parts of data that so many of them fill, or none where they do not.
@@ -85,11 +67,7 @@ fn filling_parts(data: &[u8], count: usize) -> Option<[Part; 3]>
     ensures inside { IfSome result (λ ps. AllByRecursion (Fitting part_start part_length (length «data».now)) (take count ps)) }
 {
     let parts = cut_parts(data);
-    if do_fill(&parts[0..count], data) {
-        Some(parts)
-    } else {
-        None
-    }
+    do_fill(&parts[..count], data).then_some(parts)
 }
 
 // The bytes of a part, by its place in the data.
@@ -101,37 +79,34 @@ fn part_bytes(data: &[u8], place: Part) -> &[u8]
     &data[start..start + place.length as usize]
 }
 
-// The bytes of a candidate or passphrase part: behind its length and 25h, before its last byte 00h.
+// What a part holds behind its length and 25h, where that is no more than `most` bytes, and the last byte behind it.
+fn text_in(bytes: &[u8], most: usize) -> Option<(&[u8], u8)>
+    ensures value { option_map text_behind result ≡ text_in most bytes.now }
+    ensures bound { IfSome result (λ x. length x.0.now ≤ most) }
+{
+    match bytes {
+        [_, LOCKABLE, text @ .., end] if text.len() <= most => Some((text, *end)),
+        _ => None,
+    }
+}
+
+// The bytes of a candidate or passphrase part, whose last byte is 00h.
 fn phrase_in(bytes: &[u8]) -> Option<&[u8]>
     ensures value { option_map (λ x. x.now) result ≡ phrase_in bytes.now }
-    ensures bound { IfSome result (λ p. length p.now ≤ 50) }
+    ensures bound { IfSome result (λ p. length p.now ≤ PHRASE_BYTES) }
 {
-    if bytes.len() > LONGEST_PHRASE_PART {
-        return None;
+    match text_in(bytes, PHRASE_BYTES)? {
+        (phrase, PHRASE_END) => Some(phrase),
+        _ => None,
     }
-    let [_, LOCKABLE, rest @ ..] = bytes else {
-        return None;
-    };
-    let [phrase @ .., PHRASE_END] = rest else {
-        return None;
-    };
-    Some(phrase)
 }
 
 // The bytes of a hint part, whose last byte may be any.
 fn hint_in(bytes: &[u8]) -> Option<&[u8]>
     ensures value { option_map (λ x. x.now) result ≡ hint_in bytes.now }
-    ensures bound { IfSome result (λ h. length h.now ≤ 100) }
+    ensures bound { IfSome result (λ h. length h.now ≤ HINT_BYTES) }
 {
-    if bytes.len() > LONGEST_HINT_PART {
-        return None;
-    }
-    let [_, LOCKABLE, rest @ ..] = bytes else {
-        return None;
-    };
-    let [hint @ .., _] = rest else {
-        return None;
-    };
+    let (hint, _) = text_in(bytes, HINT_BYTES)?;
     Some(hint)
 }
 
@@ -146,7 +121,7 @@ fn candidate_in(data: &[u8]) -> Option<&[u8]>
 // A new passphrase with its hint, from their two parts.
 fn secret_of<'a>(phrase: &'a [u8], hint: &'a [u8]) -> Option<NewSecret<'a>>
     ensures value { option_map secret_behind result ≡ secret_of (phrase_in phrase.now) (hint_in hint.now) }
-    ensures bound { IfSome result (λ s. (length s.phrase.now ≤ 50) × (length s.hint.now ≤ 100)) }
+    ensures bound { IfSome result HasRoom }
 {
     Some(NewSecret {
         phrase: phrase_in(phrase)?,
@@ -157,7 +132,7 @@ fn secret_of<'a>(phrase: &'a [u8], hint: &'a [u8]) -> Option<NewSecret<'a>>
 // A new passphrase with its hint, which fill the data.
 fn secret_in(data: &[u8]) -> Option<NewSecret<'_>>
     ensures value { option_map secret_behind result ≡ secret_in «data».now }
-    ensures bound { IfSome result (λ s. (length s.phrase.now ≤ 50) × (length s.hint.now ≤ 100)) }
+    ensures bound { IfSome result HasRoom }
 {
     let [phrase, hint, _] = filling_parts(data, 2)?;
     secret_of(part_bytes(data, phrase), part_bytes(data, hint))
@@ -170,7 +145,7 @@ fn change_of<'a>(
     hint: &'a [u8],
 ) -> Option<(&'a [u8], NewSecret<'a>)>
     ensures value { option_map change_behind result ≡ change_of (phrase_in candidate.now) (secret_of (phrase_in phrase.now) (hint_in hint.now)) }
-    ensures bound { IfSome result (λ x. (length x.1.phrase.now ≤ 50) × (length x.1.hint.now ≤ 100)) }
+    ensures bound { IfSome result (λ x. HasRoom x.1) }
 {
     Some((phrase_in(candidate)?, secret_of(phrase, hint)?))
 }
@@ -178,7 +153,7 @@ fn change_of<'a>(
 // A candidate, a new passphrase and its hint, which fill the data.
 fn change_in(data: &[u8]) -> Option<(&[u8], NewSecret<'_>)>
     ensures value { option_map change_behind result ≡ change_in «data».now }
-    ensures bound { IfSome result (λ x. (length x.1.phrase.now ≤ 50) × (length x.1.hint.now ≤ 100)) }
+    ensures bound { IfSome result (λ x. HasRoom x.1) }
 {
     let [candidate, phrase, hint] = filling_parts(data, 3)?;
     change_of(
@@ -188,35 +163,33 @@ fn change_in(data: &[u8]) -> Option<(&[u8], NewSecret<'_>)>
     )
 }
 
-// What a Put to a unit carries in its data, which have arrived whole. Change Interface Access is no Put to a unit.
-pub fn read_put<'a>(put: Put, data: &'a [u8]) -> UnitPut<'a>
-    ensures { put_of result ≡ carried put «data».now }
+// What a Put carries, or none where its data are malformed. Change Interface Access is no Put to a unit.
+fn carried<'a>(put: Put, data: &'a [u8]) -> Option<UnitPut<'a>>
+    ensures { MatchOption result (malformed put ≡ carried put «data».now) (λ u. put_of u ≡ carried put «data».now) }
 {
-    match put {
-        Put::StorePassphrase => match secret_in(data) {
-            Some(NewSecret { phrase, hint }) => UnitPut::Store { phrase, hint },
-            None => UnitPut::Malformed { put },
+    Some(match put {
+        Put::StorePassphrase => UnitPut::Store(secret_in(data)?),
+        Put::MatchPassphrase => UnitPut::Match {
+            candidate: candidate_in(data)?,
         },
-        Put::MatchPassphrase => match candidate_in(data) {
-            Some(candidate) => UnitPut::Match { candidate },
-            None => UnitPut::Malformed { put },
-        },
-        Put::ChangePassphrase => match change_in(data) {
-            Some((candidate, NewSecret { phrase, hint })) => UnitPut::Change {
-                candidate,
-                phrase,
-                hint,
-            },
-            None => UnitPut::Malformed { put },
-        },
-        Put::ErasePassphrase => match candidate_in(data) {
-            Some(candidate) => UnitPut::Erase { candidate },
-            None => UnitPut::Malformed { put },
+        Put::ChangePassphrase => {
+            let (candidate, secret) = change_in(data)?;
+            UnitPut::Change { candidate, secret }
+        }
+        Put::ErasePassphrase => UnitPut::Erase {
+            candidate: candidate_in(data)?,
         },
         Put::EraseForgottenPassphrase => UnitPut::EraseForgotten,
         Put::LockAgain => UnitPut::LockAgain,
         Put::ChangeInterfaceAccess => UnitPut::Misfit,
-    }
+    })
+}
+
+// What a Put to a unit carries in its data, which have arrived whole.
+pub fn read_put<'a>(put: Put, data: &'a [u8]) -> UnitPut<'a>
+    ensures { put_of result ≡ carried put «data».now }
+{
+    carried(put, data).unwrap_or(UnitPut::Malformed(put))
 }
 
 // Which part holds a byte of the data, by its number.

@@ -217,16 +217,16 @@ module _ (lay : Layout) (u : ℕ) where
     unfolding asking putting
     request_agrees DeviceDescriptor n ds x y = calm_agrees (request lay DeviceDescriptor n ds) (λ z. request_blind lay u z DeviceDescriptor n ds refl) s t b
     request_agrees Bundle n ds x y = calm_agrees (request lay Bundle n ds) (λ z. request_blind lay u z Bundle n ds refl) s t b
-    request_agrees (LockData i j) n ds x y = calm_agrees (request lay (LockData i j) n ds) (λ z. request_blind lay u z (LockData i j) n ds refl) s t b
+    request_agrees (LockData a) n ds x y = calm_agrees (request lay (LockData a) n ds) (λ z. request_blind lay u z (LockData a) n ds refl) s t b
     request_agrees (HighestUnit i) n ds x y = calm_agrees (request lay (HighestUnit i) n ds) (λ z. request_blind lay u z (HighestUnit i) n ds refl) s t b
     request_agrees (ClearJam i) n ds x y = calm_agrees (request lay (ClearJam i) n ds) (λ z. request_blind lay u z (ClearJam i) n ds refl) s t b
-    request_agrees (PutTo StorePassphrase i j) n ds x y = unit_agrees StorePassphrase i j n ds x y
-    request_agrees (PutTo MatchPassphrase i j) n ds x y = unit_agrees MatchPassphrase i j n ds x y
-    request_agrees (PutTo ChangePassphrase i j) n ds x y = unit_agrees ChangePassphrase i j n ds x y
-    request_agrees (PutTo ErasePassphrase i j) n ds x y = unit_agrees ErasePassphrase i j n ds x y
-    request_agrees (PutTo EraseForgottenPassphrase i j) n ds x y = unit_agrees EraseForgottenPassphrase i j n ds x y
-    request_agrees (PutTo LockAgain i j) n ds x y = unit_agrees LockAgain i j n ds x y
-    request_agrees (PutTo ChangeInterfaceAccess i j) n ds x y = calm_agrees (request lay (PutTo ChangeInterfaceAccess i j) n ds) (λ z. request_blind lay u z (PutTo ChangeInterfaceAccess i j) n ds refl) s t b
+    request_agrees (PutTo StorePassphrase a) n ds x y = unit_agrees StorePassphrase a.interface a.unit n ds x y
+    request_agrees (PutTo MatchPassphrase a) n ds x y = unit_agrees MatchPassphrase a.interface a.unit n ds x y
+    request_agrees (PutTo ChangePassphrase a) n ds x y = unit_agrees ChangePassphrase a.interface a.unit n ds x y
+    request_agrees (PutTo ErasePassphrase a) n ds x y = unit_agrees ErasePassphrase a.interface a.unit n ds x y
+    request_agrees (PutTo EraseForgottenPassphrase a) n ds x y = unit_agrees EraseForgottenPassphrase a.interface a.unit n ds x y
+    request_agrees (PutTo LockAgain a) n ds x y = unit_agrees LockAgain a.interface a.unit n ds x y
+    request_agrees (PutTo ChangeInterfaceAccess a) n ds x y = calm_agrees (request lay (PutTo ChangeInterfaceAccess a) n ds) (λ z. request_blind lay u z (PutTo ChangeInterfaceAccess a) n ds refl) s t b
 
     served_agrees : (o : Option Asked) (ds : List ℕ) → (asked_put carries_candidate lay u o && eqb (serving o ds s).code 0) ≡ false → (asked_put carries_candidate lay u o && eqb (serving o ds t).code 0) ≡ false → BlindO lay u (serving o ds s) (serving o ds t)
     unfolding serving asking

@@ -72,19 +72,19 @@ module _ (lay : Layout) (s : Stick) where
   unfolding Turns SameP
   request_turns DeviceDescriptor n ds = calm_turns (request lay DeviceDescriptor n ds s) (answered_same n (length ds) (device_descriptor lay s.interfaces))
   request_turns Bundle n ds = calm_turns (request lay Bundle n ds s) (answered_same n (length ds) (bundle s.interfaces))
-  request_turns (LockData i k) n ds = calm_turns (request lay (LockData i k) n ds s) (lock_data_same (find_unit lay i k) i k n (length ds))
+  request_turns (LockData a) n ds = calm_turns (request lay (LockData a) n ds s) (lock_data_same (find_unit lay a.interface a.unit) a.interface a.unit n (length ds))
   request_turns (HighestUnit i) n ds =
       calm_turns (request lay (HighestUnit i) n ds s) (cond_all SameP (ltb i (length lay.counts)) _ _ (cond_all SameP (eqb n 1) _ _ (answered_same n (length ds) ((get_or lay.counts i 0 - 1) ∷ [])) refl) refl)
   request_turns (ClearJam i) n ds = calm_turns (request lay (ClearJam i) n ds s) (cond_all SameP (ltb i (length lay.counts)) _ _ (cond_all SameP (eqb n 0 && eqb n (length ds)) _ _ refl refl) refl)
-  request_turns (PutTo StorePassphrase i k) n ds = unit_turns (find_unit lay i k) (is_negotiable (interface_at i s).ids) (sized StorePassphrase n ds)
-  request_turns (PutTo MatchPassphrase i k) n ds = unit_turns (find_unit lay i k) (is_negotiable (interface_at i s).ids) (sized MatchPassphrase n ds)
-  request_turns (PutTo ChangePassphrase i k) n ds = unit_turns (find_unit lay i k) (is_negotiable (interface_at i s).ids) (sized ChangePassphrase n ds)
-  request_turns (PutTo ErasePassphrase i k) n ds = unit_turns (find_unit lay i k) (is_negotiable (interface_at i s).ids) (sized ErasePassphrase n ds)
-  request_turns (PutTo EraseForgottenPassphrase i k) n ds = unit_turns (find_unit lay i k) (is_negotiable (interface_at i s).ids) (sized EraseForgottenPassphrase n ds)
-  request_turns (PutTo LockAgain i k) n ds = unit_turns (find_unit lay i k) (is_negotiable (interface_at i s).ids) (sized LockAgain n ds)
-  request_turns (PutTo ChangeInterfaceAccess i k) n ds =
-      cond_all (Turns (at_interface i (access_in ds))) (ltb i (length lay.counts)) _ _
-      (cond_all (Turns (at_interface i (access_in ds))) (eqb n 12 && eqb n (length ds)) _ _ (access_turns i (access_in ds)) refl) refl
+  request_turns (PutTo StorePassphrase a) n ds = unit_turns (find_unit lay a.interface a.unit) (is_negotiable (interface_at a.interface s).ids) (sized StorePassphrase n ds)
+  request_turns (PutTo MatchPassphrase a) n ds = unit_turns (find_unit lay a.interface a.unit) (is_negotiable (interface_at a.interface s).ids) (sized MatchPassphrase n ds)
+  request_turns (PutTo ChangePassphrase a) n ds = unit_turns (find_unit lay a.interface a.unit) (is_negotiable (interface_at a.interface s).ids) (sized ChangePassphrase n ds)
+  request_turns (PutTo ErasePassphrase a) n ds = unit_turns (find_unit lay a.interface a.unit) (is_negotiable (interface_at a.interface s).ids) (sized ErasePassphrase n ds)
+  request_turns (PutTo EraseForgottenPassphrase a) n ds = unit_turns (find_unit lay a.interface a.unit) (is_negotiable (interface_at a.interface s).ids) (sized EraseForgottenPassphrase n ds)
+  request_turns (PutTo LockAgain a) n ds = unit_turns (find_unit lay a.interface a.unit) (is_negotiable (interface_at a.interface s).ids) (sized LockAgain n ds)
+  request_turns (PutTo ChangeInterfaceAccess a) n ds =
+      cond_all (Turns (at_interface a.interface (access_in ds))) (ltb a.interface (length lay.counts)) _ _
+      (cond_all (Turns (at_interface a.interface (access_in ds))) (eqb n 12 && eqb n (length ds)) _ _ (access_turns a.interface (access_in ds)) refl) refl
 
   asked_turns : (o : Option Asked) (ds : List ℕ) → Turns (access_told o ds) (asked lay o ds s)
   unfolding Turns

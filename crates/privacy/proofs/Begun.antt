@@ -10,7 +10,7 @@ use Rattle.model.specs.Layouts.{Layout}
 use Rattle.model.specs.LockData.{steps_for}
 use Rattle.model.specs.Puts.{UnitPut, misfit, store, match, change, erase, forget, lock_again, correct, judged, turned}
 use Rattle.model.specs.Recovery.{is_recovering, steps_done_of}
-use Rattle.model.specs.Requests.{requested}
+use Rattle.model.specs.Requests.{address, requested}
 use Rattle.model.specs.Sticks.{Stick}
 use Rattle.model.specs.Units.{Standing, impersonal, locked, unlocked, recovering, UnitRecord, new_unit}
 use Rattle.model.specs.declared.request.Asked.{Asked}
@@ -90,7 +90,7 @@ module _ (lay : Layout) (u : ℕ) (s : Stick) where
   refused_begins true t h = absurd (false≢true h)
   refused_begins false t h = absurd (false≢true h)
 
-  put_request_begins : (p : Put) (i k n : ℕ) (ds : List ℕ) → BeginsO (is_unit (find_unit lay i k) u && forgetting p) (asking lay (PutTo p i k) n ds s)
+  put_request_begins : (p : Put) (i k n : ℕ) (ds : List ℕ) → BeginsO (is_unit (find_unit lay i k) u && forgetting p) (asking lay (PutTo p (address i k)) n ds s)
   unfolding BeginsO asking
   put_request_begins p i k n ds = ⊎_elim
       (λ e. when_present_all (BeginsO (is_unit (find_unit lay i k) u && forgetting p)) s.phase s _ (refused_begins _ s) (refused_begins _ s)
@@ -111,10 +111,10 @@ module _ (lay : Layout) (u : ℕ) (s : Stick) where
   unfolding BeginsO
   request_begins DeviceDescriptor n ds h = absurd (false≢true h)
   request_begins Bundle n ds h = absurd (false≢true h)
-  request_begins (LockData i k) n ds h = absurd (false≢true h)
+  request_begins (LockData a) n ds h = absurd (false≢true h)
   request_begins (HighestUnit i) n ds h = absurd (false≢true h)
   request_begins (ClearJam i) n ds h = absurd (false≢true h)
-  request_begins (PutTo p i k) n ds h = put_request_begins p i k n ds h
+  request_begins (PutTo p a) n ds h = put_request_begins p a.interface a.unit n ds h
 
   served_begins : (a : Option Asked) (ds : List ℕ) → BeginsO (asked_put forgetting lay u a) (when_present s.phase s (asked lay a ds s))
   unfolding BeginsO asking

@@ -362,10 +362,10 @@ module _ (lay : Layout) (u : ℕ) where
   unfolding but
   request_blind s DeviceDescriptor n ds e = answered_blind s n (length ds) (device_descriptor lay s.interfaces)
   request_blind s Bundle n ds e = answered_blind s n (length ds) (bundle s.interfaces)
-  request_blind s (LockData i k) n ds e = lock_data_blind s (find_unit lay i k) i k n (length ds)
+  request_blind s (LockData a) n ds e = lock_data_blind s (find_unit lay a.interface a.unit) a.interface a.unit n (length ds)
   request_blind s (HighestUnit i) n ds e = with_blind s i _ _ (sized_blind s (eqb n 1) _ _ (answered_blind s n (length ds) ((get_or lay.counts i 0 - 1) ∷ [])))
   request_blind s (ClearJam i) n ds e = with_blind s i _ _ (sized_blind s (eqb n 0 && eqb n (length ds)) _ _ (idle_o s 0 [] (alter i unjammed s.interfaces) s.phase))
-  request_blind s (PutTo p i k) n ds e = put_blind s p i k n ds e
+  request_blind s (PutTo p a) n ds e = put_blind s p a.interface a.unit n ds e
 
   -- Clock, power, work
 

@@ -211,14 +211,14 @@ request_within : (lay : Layout) (s : Stick) (r : Request) (n : ℕ) (ds : List �
 unfolding asking
 request_within lay s DeviceDescriptor n ds a = calm_within lay s _ (request_calm lay s DeviceDescriptor n ds refl) a
 request_within lay s Bundle n ds a = calm_within lay s _ (request_calm lay s Bundle n ds refl) a
-request_within lay s (LockData i k) n ds a = calm_within lay s _ (request_calm lay s (LockData i k) n ds refl) a
+request_within lay s (LockData target) n ds a = calm_within lay s _ (request_calm lay s (LockData target) n ds refl) a
 request_within lay s (HighestUnit i) n ds a = calm_within lay s _ (request_calm lay s (HighestUnit i) n ds refl) a
 request_within lay s (ClearJam i) n ds a = calm_within lay s _ (request_calm lay s (ClearJam i) n ds refl) a
-request_within lay s (PutTo p i k) n ds a =
+request_within lay s (PutTo p target) n ds a =
     ⊎_elim
     (λ e. when_present_all (λ o. AllIn o.next) s.phase s _ a a
-    (subst (λ o. AllIn o.next) (sym (unit_put_is lay p i k n ds s e)) (put_to_within (find_unit lay i k) (is_negotiable (interface_at i s).ids) (sized p n ds) s (sized_modest p n ds) a)))
-    (λ e. calm_within lay s _ (request_calm lay s (PutTo p i k) n ds e) a)
+    (subst (λ o. AllIn o.next) (sym (unit_put_is lay p target.interface target.unit n ds s e)) (put_to_within (find_unit lay target.interface target.unit) (is_negotiable (interface_at target.interface s).ids) (sized p n ds) s (sized_modest p n ds) a)))
+    (λ e. calm_within lay s _ (request_calm lay s (PutTo p target) n ds e) a)
     (cases_Bool (is_unit_put p))
 
 served_within : (lay : Layout) (s : Stick) (o : Option Asked) (ds : List ℕ) → AllIn s → AllIn (when_present s.phase s (asked lay o ds s)).next

@@ -157,10 +157,10 @@ is_unit_put ChangeInterfaceAccess = false
 abbrev pub puts : Request → Bool
 puts DeviceDescriptor = false
 puts Bundle = false
-puts (LockData i k) = false
+puts (LockData a) = false
 puts (HighestUnit i) = false
 puts (ClearJam i) = false
-puts (PutTo p i k) = is_unit_put p
+puts (PutTo p a) = is_unit_put p
 
 -- the two ways of a Put
 pub put_cases : (P : Outcome → Type 0) (lay : Layout) (p : Put) (i k n : ℕ) (ds : List ℕ) (s : Stick) →
@@ -212,14 +212,14 @@ module _ (lay : Layout) (s : Stick) where
   requests : (r : Request) (n : ℕ) (ds : List ℕ) → puts r ≡ false → CalmO (request lay r n ds s)
   requests DeviceDescriptor n ds e = answers n (length ds) (device_descriptor lay s.interfaces)
   requests Bundle n ds e = answers n (length ds) (bundle s.interfaces)
-  requests (LockData i k) n ds e = lock_datas (find_unit lay i k) i k n (length ds)
+  requests (LockData a) n ds e = lock_datas (find_unit lay a.interface a.unit) a.interface a.unit n (length ds)
   requests (HighestUnit i) n ds e =
       on_the_interface i _ (cond_all CalmO (eqb n 1) _ _ (answers n (length ds) ((get_or lay.counts i 0 - 1) ∷ [])) (same refusal.WrongLength))
   requests (ClearJam i) n ds e =
       on_the_interface i _ (cond_all CalmO (eqb n 0 && eqb n (length ds)) _ _ (moves 0 [] (alter i Rattle.model.specs.Control.unjammed s.interfaces) s.phase) (same refusal.WrongLength))
-  requests (PutTo p i k) n ds e =
-      put_cases CalmO lay p i k n ds s (λ u. absurd (true≢false (sym u ∙ e)))
-      (λ u. on_the_interface i _ (cond_all CalmO (eqb n 12 && eqb n (length ds)) _ _ (accesses i (access_in ds)) (same refusal.WrongLength)))
+  requests (PutTo p a) n ds e =
+      put_cases CalmO lay p a.interface a.unit n ds s (λ u. absurd (true≢false (sym u ∙ e)))
+      (λ u. on_the_interface a.interface _ (cond_all CalmO (eqb n 12 && eqb n (length ds)) _ _ (accesses a.interface (access_in ds)) (same refusal.WrongLength)))
 
   pub request_calm : (r : Request) (n : ℕ) (ds : List ℕ) → puts r ≡ false → Calm lay s (when_present s.phase s (request lay r n ds s)).next
   unfolding CalmO

@@ -129,15 +129,15 @@ module _ (lay : Layout) (s : Stick) where
     unfolding FairO SameI
     request_fair DeviceDescriptor n ds = calm_fair (request lay DeviceDescriptor n ds s) (answered_same n (length ds) (device_descriptor lay s.interfaces))
     request_fair Bundle n ds = calm_fair (request lay Bundle n ds s) (answered_same n (length ds) (bundle s.interfaces))
-    request_fair (LockData j k) n ds = calm_fair (request lay (LockData j k) n ds s) (lock_data_same (find_unit lay j k) j k n (length ds))
+    request_fair (LockData a) n ds = calm_fair (request lay (LockData a) n ds s) (lock_data_same (find_unit lay a.interface a.unit) a.interface a.unit n (length ds))
     request_fair (HighestUnit j) n ds =
         calm_fair (request lay (HighestUnit j) n ds s) (cond_all SameI (ltb j (length lay.counts)) _ _ (cond_all SameI (eqb n 1) _ _ (answered_same n (length ds) ((get_or lay.counts j 0 - 1) ∷ [])) refl) refl)
     request_fair (ClearJam j) n ds =
         cond_all (FairO (eqb j i)) (ltb j (length lay.counts)) _ _
         (cond_all (FairO (eqb j i)) (eqb n 0 && eqb n (length ds)) _ _ (clear_fair j) (refuse_fair (eqb j i) refusal.WrongLength refl)) (refuse_fair (eqb j i) refusal.Absent refl)
-    request_fair (PutTo p j k) n ds =
-        calm_fair (request lay (PutTo p j k) n ds s) (put_cases SameI lay p j k n ds s (λ e. unit_same (find_unit lay j k) (is_negotiable (interface_at j s).ids) (sized p n ds))
-        (λ e. cond_all SameI (ltb j (length lay.counts)) _ _ (cond_all SameI (eqb n 12 && eqb n (length ds)) _ _ (access_same j (access_in ds)) refl) refl))
+    request_fair (PutTo p a) n ds =
+        calm_fair (request lay (PutTo p a) n ds s) (put_cases SameI lay p a.interface a.unit n ds s (λ e. unit_same (find_unit lay a.interface a.unit) (is_negotiable (interface_at a.interface s).ids) (sized p n ds))
+        (λ e. cond_all SameI (ltb a.interface (length lay.counts)) _ _ (cond_all SameI (eqb n 12 && eqb n (length ds)) _ _ (access_same a.interface (access_in ds)) refl) refl))
 
     asked_fair : (o : Option Asked) (ds : List ℕ) → FairO (asked_clearing i o) (asked lay o ds s)
     unfolding FairO
@@ -238,15 +238,15 @@ module _ (lay : Layout) (s : Stick) where
   unfolding AsMany SameI
   many_request DeviceDescriptor n ds = unless_clearing (request lay DeviceDescriptor n ds s) (answered_same lay s n (length ds) (device_descriptor lay s.interfaces))
   many_request Bundle n ds = unless_clearing (request lay Bundle n ds s) (answered_same lay s n (length ds) (bundle s.interfaces))
-  many_request (LockData j k) n ds = unless_clearing (request lay (LockData j k) n ds s) (lock_data_same lay s (find_unit lay j k) j k n (length ds))
+  many_request (LockData a) n ds = unless_clearing (request lay (LockData a) n ds s) (lock_data_same lay s (find_unit lay a.interface a.unit) a.interface a.unit n (length ds))
   many_request (HighestUnit j) n ds =
       unless_clearing (request lay (HighestUnit j) n ds s) (cond_all (SameI lay s) (ltb j (length lay.counts)) _ _ (cond_all (SameI lay s) (eqb n 1) _ _ (answered_same lay s n (length ds) ((get_or lay.counts j 0 - 1) ∷ [])) refl) refl)
   many_request (ClearJam j) n ds =
       cond_all (λ (o : Outcome). AsMany o.next) (ltb j (length lay.counts)) _ _
       (cond_all (λ (o : Outcome). AsMany o.next) (eqb n 0 && eqb n (length ds)) _ _ (length_alter s.interfaces j unjammed) refl) refl
-  many_request (PutTo p j k) n ds =
-      unless_clearing (request lay (PutTo p j k) n ds s) (put_cases (SameI lay s) lay p j k n ds s (λ e. unit_same lay s (find_unit lay j k) (is_negotiable (interface_at j s).ids) (sized p n ds))
-      (λ e. cond_all (SameI lay s) (ltb j (length lay.counts)) _ _ (cond_all (SameI lay s) (eqb n 12 && eqb n (length ds)) _ _ (access_same lay s j (access_in ds)) refl) refl))
+  many_request (PutTo p a) n ds =
+      unless_clearing (request lay (PutTo p a) n ds s) (put_cases (SameI lay s) lay p a.interface a.unit n ds s (λ e. unit_same lay s (find_unit lay a.interface a.unit) (is_negotiable (interface_at a.interface s).ids) (sized p n ds))
+      (λ e. cond_all (SameI lay s) (ltb a.interface (length lay.counts)) _ _ (cond_all (SameI lay s) (eqb n 12 && eqb n (length ds)) _ _ (access_same lay s a.interface (access_in ds)) refl) refl))
 
   many_asked : (o : Option Asked) (ds : List ℕ) → AsMany (asked lay o ds s).next
   unfolding AsMany

@@ -121,12 +121,12 @@ module _ (lay : Layout) (s : Stick) where
   unfolding Same
   request_same DeviceDescriptor n ds = answered_same n (length ds) (device_descriptor lay s.interfaces)
   request_same Bundle n ds = answered_same n (length ds) (bundle s.interfaces)
-  request_same (LockData i k) n ds = lock_data_same (find_unit lay i k) i k n (length ds)
+  request_same (LockData a) n ds = lock_data_same (find_unit lay a.interface a.unit) a.interface a.unit n (length ds)
   request_same (HighestUnit i) n ds = cond_all Same (ltb i (length lay.counts)) _ _ (cond_all Same (eqb n 1) _ _ (answered_same n (length ds) ((get_or lay.counts i 0 - 1) ∷ [])) refl) refl
   request_same (ClearJam i) n ds = cond_all Same (ltb i (length lay.counts)) _ _ (cond_all Same (eqb n 0 && eqb n (length ds)) _ _ refl refl) refl
-  request_same (PutTo p i k) n ds =
-      put_cases Same lay p i k n ds s (λ e. unit_same (find_unit lay i k) (is_negotiable (interface_at i s).ids) (sized p n ds))
-      (λ e. cond_all Same (ltb i (length lay.counts)) _ _ (cond_all Same (eqb n 12 && eqb n (length ds)) _ _ (access_same i (access_in ds)) refl) refl)
+  request_same (PutTo p a) n ds =
+      put_cases Same lay p a.interface a.unit n ds s (λ e. unit_same (find_unit lay a.interface a.unit) (is_negotiable (interface_at a.interface s).ids) (sized p n ds))
+      (λ e. cond_all Same (ltb a.interface (length lay.counts)) _ _ (cond_all Same (eqb n 12 && eqb n (length ds)) _ _ (access_same a.interface (access_in ds)) refl) refl)
 
   asked_same : (o : Option Asked) (ds : List ℕ) → Same (asked lay o ds s)
   unfolding Same

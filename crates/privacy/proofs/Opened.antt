@@ -9,7 +9,7 @@ use Rattle.model.specs.Identities.{is_negotiable}
 use Rattle.model.specs.Layouts.{Layout, sum}
 use Rattle.model.specs.Puts.{UnitPut, carried, misfit, store, match, change, erase, forget, lock_again, correct, judged, turned}
 use Rattle.model.specs.Recovery.{steps_done_of, first_recovering, advanced, work_on, worked}
-use Rattle.model.specs.Requests.{requested}
+use Rattle.model.specs.Requests.{address, requested}
 use Rattle.model.specs.Sticks.{Stick, first}
 use Rattle.model.specs.Units.{Standing, impersonal, locked, unlocked, recovering, UnitRecord, new_unit, is_locked, holds_phrase, relocked}
 use Rattle.model.specs.declared.request.Asked.{Asked}
@@ -148,11 +148,11 @@ unit_fair lay u (option.Some v) n p k ds s =
     kinds true kind ukind e = sym (same_kind kind ukind e p k ds n (unit_at v s))
     kinds false kind ukind e = refl
 
-put_request_fair : (lay : Layout) (u : ℕ) (s : Stick) (p : Put) (i k n : ℕ) (ds : List ℕ) → is_unit_put p ≡ true → FairRequest lay u s (PutTo p i k) (asking lay (PutTo p i k) n ds s)
+put_request_fair : (lay : Layout) (u : ℕ) (s : Stick) (p : Put) (i k n : ℕ) (ds : List ℕ) → is_unit_put p ≡ true → FairRequest lay u s (PutTo p (address i k)) (asking lay (PutTo p (address i k)) n ds s)
 unfolding FairRequest asking
 put_request_fair lay u s p i k n ds e =
-    when_present_all (FairRequest lay u s (PutTo p i k)) s.phase s _ (refused_fair _ _ _) (refused_fair _ _ _)
-    (subst (FairRequest lay u s (PutTo p i k)) (sym (unit_put_is lay p i k n ds s e)) (unit_fair lay u (find_unit lay i k) (is_negotiable (interface_at i s).ids) p n ds s))
+    when_present_all (FairRequest lay u s (PutTo p (address i k))) s.phase s _ (refused_fair _ _ _) (refused_fair _ _ _)
+    (subst (FairRequest lay u s (PutTo p (address i k))) (sym (unit_put_is lay p i k n ds s e)) (unit_fair lay u (find_unit lay i k) (is_negotiable (interface_at i s).ids) p n ds s))
 
 calm_request_fair : (lay : Layout) (u : ℕ) (s : Stick) (r : Request) (n : ℕ) (ds : List ℕ) → puts r ≡ false → asks_put opening lay u r ≡ false → asks_put locking lay u r ≡ false → FairRequest lay u s r (asking lay r n ds s)
 unfolding FairRequest asking
@@ -166,17 +166,17 @@ other_kind false b e = refl
 request_fair : (lay : Layout) (u : ℕ) (s : Stick) (r : Request) (n : ℕ) (ds : List ℕ) → FairRequest lay u s r (asking lay r n ds s)
 request_fair lay u s DeviceDescriptor n ds = calm_request_fair lay u s DeviceDescriptor n ds refl refl refl
 request_fair lay u s Bundle n ds = calm_request_fair lay u s Bundle n ds refl refl refl
-request_fair lay u s (LockData i k) n ds = calm_request_fair lay u s (LockData i k) n ds refl refl refl
+request_fair lay u s (LockData a) n ds = calm_request_fair lay u s (LockData a) n ds refl refl refl
 request_fair lay u s (HighestUnit i) n ds = calm_request_fair lay u s (HighestUnit i) n ds refl refl refl
 request_fair lay u s (ClearJam i) n ds = calm_request_fair lay u s (ClearJam i) n ds refl refl refl
-request_fair lay u s (PutTo StorePassphrase i k) n ds = put_request_fair lay u s StorePassphrase i k n ds refl
-request_fair lay u s (PutTo MatchPassphrase i k) n ds = put_request_fair lay u s MatchPassphrase i k n ds refl
-request_fair lay u s (PutTo ChangePassphrase i k) n ds = put_request_fair lay u s ChangePassphrase i k n ds refl
-request_fair lay u s (PutTo ErasePassphrase i k) n ds = put_request_fair lay u s ErasePassphrase i k n ds refl
-request_fair lay u s (PutTo EraseForgottenPassphrase i k) n ds = put_request_fair lay u s EraseForgottenPassphrase i k n ds refl
-request_fair lay u s (PutTo LockAgain i k) n ds = put_request_fair lay u s LockAgain i k n ds refl
-request_fair lay u s (PutTo ChangeInterfaceAccess i k) n ds =
-    calm_request_fair lay u s (PutTo ChangeInterfaceAccess i k) n ds refl (other_kind (is_unit (find_unit lay i k) u) false refl) (other_kind (is_unit (find_unit lay i k) u) false refl)
+request_fair lay u s (PutTo StorePassphrase a) n ds = put_request_fair lay u s StorePassphrase a.interface a.unit n ds refl
+request_fair lay u s (PutTo MatchPassphrase a) n ds = put_request_fair lay u s MatchPassphrase a.interface a.unit n ds refl
+request_fair lay u s (PutTo ChangePassphrase a) n ds = put_request_fair lay u s ChangePassphrase a.interface a.unit n ds refl
+request_fair lay u s (PutTo ErasePassphrase a) n ds = put_request_fair lay u s ErasePassphrase a.interface a.unit n ds refl
+request_fair lay u s (PutTo EraseForgottenPassphrase a) n ds = put_request_fair lay u s EraseForgottenPassphrase a.interface a.unit n ds refl
+request_fair lay u s (PutTo LockAgain a) n ds = put_request_fair lay u s LockAgain a.interface a.unit n ds refl
+request_fair lay u s (PutTo ChangeInterfaceAccess a) n ds =
+    calm_request_fair lay u s (PutTo ChangeInterfaceAccess a) n ds refl (other_kind (is_unit (find_unit lay a.interface a.unit) u) false refl) (other_kind (is_unit (find_unit lay a.interface a.unit) u) false refl)
 
 FairServed : Layout → ℕ → Stick → Option Asked → Outcome → Type 0
 FairServed lay u s a o = Fair (asked_put opening lay u a && eqb o.code 0) (asked_put locking lay u a && eqb o.code 0) (unit_at u s).standing (unit_at u o.next).standing

@@ -11,7 +11,7 @@ use Rattle.model.specs.Identities.{is_negotiable}
 use Rattle.model.specs.Layouts.{Layout, sum}
 use Rattle.model.specs.Puts.{UnitPut, misfit, store, match, change, erase, forget, lock_again, correct, judged, turned}
 use Rattle.model.specs.Recovery.{zeroed, is_recovering, steps_done_of, first_recovering, advanced, work_on, worked}
-use Rattle.model.specs.Requests.{requested}
+use Rattle.model.specs.Requests.{address, requested}
 use Rattle.model.specs.Sticks.{Stick, stick, repowered}
 use Rattle.model.specs.Units.{Standing, impersonal, locked, unlocked, recovering, UnitRecord, new_unit, is_locked, relocked}
 use Rattle.model.specs.declared.request.Asked.{Asked}
@@ -208,23 +208,23 @@ module _ (lay : Layout) (u : ℕ) where
   calm_clean ok s t (shown r m) k = same_clean s t (calm_keeps lay u s t (shown r m)) m k
 
   -- a Put goes to a unit, or to an interface and then is calm
-  put_request_clean : Disjoint lay → (s : Stick) (p : Put) (i j n : ℕ) (ds : List ℕ) → Clean lay u s → Clean lay u (asking lay (PutTo p i j) n ds s).next
+  put_request_clean : Disjoint lay → (s : Stick) (p : Put) (i j n : ℕ) (ds : List ℕ) → Clean lay u s → Clean lay u (asking lay (PutTo p (address i j)) n ds s).next
   unfolding asking
   put_request_clean ok s p i j n ds k =
       ⊎_elim
       (λ e. when_present_all (λ o. Clean lay u o.next) s.phase s _ k k
       (subst (λ o. Clean lay u o.next) (sym (unit_put_is lay p i j n ds s e)) (put_clean (find_unit lay i j) (is_negotiable (interface_at i s).ids) (sized p n ds) s k)))
-      (λ e. calm_clean ok s _ (request_calm lay s (PutTo p i j) n ds e) k)
+      (λ e. calm_clean ok s _ (request_calm lay s (PutTo p (address i j)) n ds e) k)
       (cases_Bool (is_unit_put p))
 
   request_clean : Disjoint lay → (s : Stick) (r : Request) (n : ℕ) (ds : List ℕ) → Clean lay u s → Clean lay u (asking lay r n ds s).next
   unfolding asking
   request_clean ok s DeviceDescriptor n ds k = calm_clean ok s _ (request_calm lay s DeviceDescriptor n ds refl) k
   request_clean ok s Bundle n ds k = calm_clean ok s _ (request_calm lay s Bundle n ds refl) k
-  request_clean ok s (LockData i j) n ds k = calm_clean ok s _ (request_calm lay s (LockData i j) n ds refl) k
+  request_clean ok s (LockData a) n ds k = calm_clean ok s _ (request_calm lay s (LockData a) n ds refl) k
   request_clean ok s (HighestUnit i) n ds k = calm_clean ok s _ (request_calm lay s (HighestUnit i) n ds refl) k
   request_clean ok s (ClearJam i) n ds k = calm_clean ok s _ (request_calm lay s (ClearJam i) n ds refl) k
-  request_clean ok s (PutTo p i j) n ds k = put_request_clean ok s p i j n ds k
+  request_clean ok s (PutTo p a) n ds k = put_request_clean ok s p a.interface a.unit n ds k
 
   served_clean : Disjoint lay → (s : Stick) (o : Option Asked) (ds : List ℕ) → Clean lay u s → Clean lay u (when_present s.phase s (asked lay o ds s)).next
   unfolding asking

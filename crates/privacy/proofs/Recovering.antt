@@ -10,7 +10,7 @@ use Rattle.model.specs.Identities.{is_negotiable}
 use Rattle.model.specs.Layouts.{Layout, sum}
 use Rattle.model.specs.Puts.{UnitPut, carried, misfit, store, match, change, erase, forget, lock_again, correct, judged, turned}
 use Rattle.model.specs.Recovery.{zeroed_block, zeroed, is_recovering, steps_done_of, first_recovering, advanced, work_on, worked}
-use Rattle.model.specs.Requests.{requested}
+use Rattle.model.specs.Requests.{address, requested}
 use Rattle.model.specs.Sticks.{Stick, first}
 use Rattle.model.specs.Units.{Standing, impersonal, locked, unlocked, recovering, UnitRecord, unit_record, new_unit, is_locked, relocked}
 use Rattle.model.specs.declared.request.Asked.{Asked}
@@ -149,7 +149,7 @@ module _ (lay : Layout) (u : ℕ) (s : Stick) where
   calm_onto : (t : Stick) → Calm lay s t → Onto false false (blocks_of lay u) (unit_at u s).standing (unit_at u t).standing
   calm_onto t c = kept_onto _ _ _ (calm_keeps lay u s t c)
 
-  put_request_onto : (p : Put) (i k n : ℕ) (ds : List ℕ) → is_unit_put p ≡ true → OntoRequest (asks_put forgetting lay u (PutTo p i k)) (asking lay (PutTo p i k) n ds s)
+  put_request_onto : (p : Put) (i k n : ℕ) (ds : List ℕ) → is_unit_put p ≡ true → OntoRequest (asks_put forgetting lay u (PutTo p (address i k))) (asking lay (PutTo p (address i k)) n ds s)
   unfolding OntoRequest asking
   put_request_onto p i k n ds e =
       when_present_all (OntoRequest (is_unit (find_unit lay i k) u && forgetting p)) s.phase s _ (refused_onto _) (refused_onto _)
@@ -162,16 +162,16 @@ module _ (lay : Layout) (u : ℕ) (s : Stick) where
   request_onto : (r : Request) (n : ℕ) (ds : List ℕ) → OntoRequest (asks_put forgetting lay u r) (asking lay r n ds s)
   request_onto DeviceDescriptor n ds = calm_request_onto DeviceDescriptor n ds refl refl
   request_onto Bundle n ds = calm_request_onto Bundle n ds refl refl
-  request_onto (LockData i k) n ds = calm_request_onto (LockData i k) n ds refl refl
+  request_onto (LockData a) n ds = calm_request_onto (LockData a) n ds refl refl
   request_onto (HighestUnit i) n ds = calm_request_onto (HighestUnit i) n ds refl refl
   request_onto (ClearJam i) n ds = calm_request_onto (ClearJam i) n ds refl refl
-  request_onto (PutTo StorePassphrase i k) n ds = put_request_onto StorePassphrase i k n ds refl
-  request_onto (PutTo MatchPassphrase i k) n ds = put_request_onto MatchPassphrase i k n ds refl
-  request_onto (PutTo ChangePassphrase i k) n ds = put_request_onto ChangePassphrase i k n ds refl
-  request_onto (PutTo ErasePassphrase i k) n ds = put_request_onto ErasePassphrase i k n ds refl
-  request_onto (PutTo EraseForgottenPassphrase i k) n ds = put_request_onto EraseForgottenPassphrase i k n ds refl
-  request_onto (PutTo LockAgain i k) n ds = put_request_onto LockAgain i k n ds refl
-  request_onto (PutTo ChangeInterfaceAccess i k) n ds = calm_request_onto (PutTo ChangeInterfaceAccess i k) n ds refl (and_right (is_unit (find_unit lay i k) u) false refl)
+  request_onto (PutTo StorePassphrase a) n ds = put_request_onto StorePassphrase a.interface a.unit n ds refl
+  request_onto (PutTo MatchPassphrase a) n ds = put_request_onto MatchPassphrase a.interface a.unit n ds refl
+  request_onto (PutTo ChangePassphrase a) n ds = put_request_onto ChangePassphrase a.interface a.unit n ds refl
+  request_onto (PutTo ErasePassphrase a) n ds = put_request_onto ErasePassphrase a.interface a.unit n ds refl
+  request_onto (PutTo EraseForgottenPassphrase a) n ds = put_request_onto EraseForgottenPassphrase a.interface a.unit n ds refl
+  request_onto (PutTo LockAgain a) n ds = put_request_onto LockAgain a.interface a.unit n ds refl
+  request_onto (PutTo ChangeInterfaceAccess a) n ds = calm_request_onto (PutTo ChangeInterfaceAccess a) n ds refl (and_right (is_unit (find_unit lay a.interface a.unit) u) false refl)
 
   served_onto : (a : Option Asked) (ds : List ℕ) → OntoRequest (asked_put forgetting lay u a) (when_present s.phase s (asked lay a ds s))
   unfolding OntoRequest asking
@@ -314,14 +314,14 @@ module _ (lay : Layout) (u : ℕ) (s : Stick) (r : is_recovering (unit_at u s).s
   unfolding Stays asking
   request_stays DeviceDescriptor n ds = calm_stays _ (request_calm lay s DeviceDescriptor n ds refl)
   request_stays Bundle n ds = calm_stays _ (request_calm lay s Bundle n ds refl)
-  request_stays (LockData i k) n ds = calm_stays _ (request_calm lay s (LockData i k) n ds refl)
+  request_stays (LockData a) n ds = calm_stays _ (request_calm lay s (LockData a) n ds refl)
   request_stays (HighestUnit i) n ds = calm_stays _ (request_calm lay s (HighestUnit i) n ds refl)
   request_stays (ClearJam i) n ds = calm_stays _ (request_calm lay s (ClearJam i) n ds refl)
-  request_stays (PutTo p i k) n ds =
+  request_stays (PutTo p a) n ds =
       ⊎_elim
       (λ e. when_present_all (λ o. Stays o.next) s.phase s _ refl refl
-      (subst (λ o. Stays o.next) (sym (unit_put_is lay p i k n ds s e)) (unit_stays (find_unit lay i k) (is_negotiable (interface_at i s).ids) (sized p n ds))))
-      (λ e. calm_stays _ (request_calm lay s (PutTo p i k) n ds e))
+      (subst (λ o. Stays o.next) (sym (unit_put_is lay p a.interface a.unit n ds s e)) (unit_stays (find_unit lay a.interface a.unit) (is_negotiable (interface_at a.interface s).ids) (sized p n ds))))
+      (λ e. calm_stays _ (request_calm lay s (PutTo p a) n ds e))
       (cases_Bool (is_unit_put p))
 
   served_stays : (o : Option Asked) (ds : List ℕ) → Stays (when_present s.phase s (asked lay o ds s)).next

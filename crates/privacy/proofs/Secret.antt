@@ -9,7 +9,7 @@ use Rattle.model.specs.Identities.{is_negotiable}
 use Rattle.model.specs.Layouts.{Layout}
 use Rattle.model.specs.Puts.{UnitPut, misfit, store, match, change, erase, forget, lock_again, correct, judged, turned}
 use Rattle.model.specs.Recovery.{is_recovering, steps_done_of, first_recovering, advanced, work_on, worked}
-use Rattle.model.specs.Requests.{requested}
+use Rattle.model.specs.Requests.{address, requested}
 use Rattle.model.specs.Sticks.{Stick}
 use Rattle.model.specs.Units.{Standing, impersonal, locked, unlocked, recovering, UnitRecord, new_unit, is_locked, relocked}
 use Rattle.model.specs.declared.request.Asked.{Asked}
@@ -37,13 +37,13 @@ module _ (lay : Layout) (ok : Disjoint lay) (u : ℕ) where
   calm_locks : (s t : Stick) → Locked u s → Calm lay s t → Locked u t
   calm_locks s t l c = ap is_locked (calm_keeps lay u s t c) ∙ l
 
-  put_request_locks : (s : Stick) → Locked u s → (p : Put) (i j n : ℕ) (ds : List ℕ) → (is_unit (find_unit lay i j) u && carries_candidate p && eqb (asking lay (PutTo p i j) n ds s).code 0) ≡ false → Locked u (asking lay (PutTo p i j) n ds s).next
+  put_request_locks : (s : Stick) → Locked u s → (p : Put) (i j n : ℕ) (ds : List ℕ) → (is_unit (find_unit lay i j) u && carries_candidate p && eqb (asking lay (PutTo p (address i j)) n ds s).code 0) ≡ false → Locked u (asking lay (PutTo p (address i j)) n ds s).next
   unfolding asking
   put_request_locks s l p i j n ds q =
       ⊎_elim
       (λ e. subst (λ o. Quiet o → Locked u (when_present s.phase s o).next) (sym (unit_put_is lay p i j n ds s e))
       (λ x. present_locks lay u s.phase (find_unit lay i j) (is_negotiable (interface_at i s).ids) (sized p n ds) s l (quieter (is_unit (find_unit lay i j) u) (carries_candidate p) (candidate (sized p n ds)) _ (candidate_asked p n ds) x)) q)
-      (λ e. calm_locks s _ l (request_calm lay s (PutTo p i j) n ds e))
+      (λ e. calm_locks s _ l (request_calm lay s (PutTo p (address i j)) n ds e))
       (cases_Bool (is_unit_put p))
     where
       Quiet : Outcome → Type 0
@@ -53,10 +53,10 @@ module _ (lay : Layout) (ok : Disjoint lay) (u : ℕ) where
   unfolding asking
   request_locks s l DeviceDescriptor n ds q = calm_locks s _ l (request_calm lay s DeviceDescriptor n ds refl)
   request_locks s l Bundle n ds q = calm_locks s _ l (request_calm lay s Bundle n ds refl)
-  request_locks s l (LockData i j) n ds q = calm_locks s _ l (request_calm lay s (LockData i j) n ds refl)
+  request_locks s l (LockData a) n ds q = calm_locks s _ l (request_calm lay s (LockData a) n ds refl)
   request_locks s l (HighestUnit i) n ds q = calm_locks s _ l (request_calm lay s (HighestUnit i) n ds refl)
   request_locks s l (ClearJam i) n ds q = calm_locks s _ l (request_calm lay s (ClearJam i) n ds refl)
-  request_locks s l (PutTo p i j) n ds q = put_request_locks s l p i j n ds q
+  request_locks s l (PutTo p a) n ds q = put_request_locks s l p a.interface a.unit n ds q
 
   served_locks : (s : Stick) → Locked u s → (o : Option Asked) (ds : List ℕ) → (asked_put carries_candidate lay u o && eqb (when_present s.phase s (asked lay o ds s)).code 0) ≡ false → Locked u (when_present s.phase s (asked lay o ds s)).next
   unfolding asking
@@ -196,14 +196,14 @@ request_recovering : (lay : Layout) (u : ℕ) (s : Stick) (r : Request) (n : ℕ
 unfolding asking
 request_recovering lay u s DeviceDescriptor n ds h = ap is_recovering (calm_keeps lay u s _ (request_calm lay s DeviceDescriptor n ds refl)) ∙ h
 request_recovering lay u s Bundle n ds h = ap is_recovering (calm_keeps lay u s _ (request_calm lay s Bundle n ds refl)) ∙ h
-request_recovering lay u s (LockData i j) n ds h = ap is_recovering (calm_keeps lay u s _ (request_calm lay s (LockData i j) n ds refl)) ∙ h
+request_recovering lay u s (LockData a) n ds h = ap is_recovering (calm_keeps lay u s _ (request_calm lay s (LockData a) n ds refl)) ∙ h
 request_recovering lay u s (HighestUnit i) n ds h = ap is_recovering (calm_keeps lay u s _ (request_calm lay s (HighestUnit i) n ds refl)) ∙ h
 request_recovering lay u s (ClearJam i) n ds h = ap is_recovering (calm_keeps lay u s _ (request_calm lay s (ClearJam i) n ds refl)) ∙ h
-request_recovering lay u s (PutTo p i j) n ds h =
+request_recovering lay u s (PutTo p a) n ds h =
     ⊎_elim
     (λ e. when_present_all (λ o. is_recovering (unit_at u o.next).standing ≡ true) s.phase s _ h h
-    (subst (λ o. is_recovering (unit_at u o.next).standing ≡ true) (sym (unit_put_is lay p i j n ds s e)) (put_recovering u (find_unit lay i j) (is_negotiable (interface_at i s).ids) (sized p n ds) s h)))
-    (λ e. ap is_recovering (calm_keeps lay u s _ (request_calm lay s (PutTo p i j) n ds e)) ∙ h)
+    (subst (λ o. is_recovering (unit_at u o.next).standing ≡ true) (sym (unit_put_is lay p a.interface a.unit n ds s e)) (put_recovering u (find_unit lay a.interface a.unit) (is_negotiable (interface_at a.interface s).ids) (sized p n ds) s h)))
+    (λ e. ap is_recovering (calm_keeps lay u s _ (request_calm lay s (PutTo p a) n ds e)) ∙ h)
     (cases_Bool (is_unit_put p))
 
 served_recovering : (lay : Layout) (u : ℕ) (s : Stick) (o : Option Asked) (ds : List ℕ) → is_recovering (unit_at u s).standing ≡ true → is_recovering (unit_at u (when_present s.phase s (asked lay o ds s)).next).standing ≡ true

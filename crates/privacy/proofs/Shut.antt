@@ -7,7 +7,7 @@ use Rattle.model.specs.Events.{control, bulk, work, clock, reset, suspend, resum
 use Rattle.model.specs.Identities.{is_negotiable}
 use Rattle.model.specs.Layouts.{Layout}
 use Rattle.model.specs.Puts.{UnitPut, misfit, store, match, change, erase, forget, lock_again, is_phrase, judged, correct, turned}
-use Rattle.model.specs.Requests.{requested}
+use Rattle.model.specs.Requests.{address, requested}
 use Rattle.model.specs.Sticks.{Stick}
 use Rattle.model.specs.Units.{Standing, impersonal, locked, unlocked, recovering, UnitRecord, is_locked}
 use Rattle.model.specs.declared.request.Asked.{Asked}
@@ -79,7 +79,7 @@ module _ (lay : Layout) (s : Stick) (u : ℕ) (l : Locked u s) (ten : 10 ≤ (un
   away_shut : (kind : Bool) → (kind && false) ≡ false
   away_shut kind = and_right kind false refl
 
-  put_request_shut : (p : Put) (i k n : ℕ) (ds : List ℕ) → Shut (is_unit (find_unit lay i k) u && carries_candidate p) (asking lay (PutTo p i k) n ds s)
+  put_request_shut : (p : Put) (i k n : ℕ) (ds : List ℕ) → Shut (is_unit (find_unit lay i k) u && carries_candidate p) (asking lay (PutTo p (address i k)) n ds s)
   unfolding Shut asking
   put_request_shut p i k n ds = ⊎_elim
       (λ e. when_present_all (Shut (is_unit (find_unit lay i k) u && carries_candidate p)) s.phase s _ (away_shut _) (away_shut _)
@@ -100,10 +100,10 @@ module _ (lay : Layout) (s : Stick) (u : ℕ) (l : Locked u s) (ten : 10 ≤ (un
   unfolding Shut
   request_shut DeviceDescriptor n ds = refl
   request_shut Bundle n ds = refl
-  request_shut (LockData i k) n ds = refl
+  request_shut (LockData a) n ds = refl
   request_shut (HighestUnit i) n ds = refl
   request_shut (ClearJam i) n ds = refl
-  request_shut (PutTo p i k) n ds = put_request_shut p i k n ds
+  request_shut (PutTo p a) n ds = put_request_shut p a.interface a.unit n ds
 
   served_shut : (a : Option Asked) (ds : List ℕ) → Shut (asked_put carries_candidate lay u a) (when_present s.phase s (asked lay a ds s))
   unfolding Shut asking

@@ -143,10 +143,10 @@ access_put ChangeInterfaceAccess i ds = at_interface i (access_in ds)
 abbrev pub access_asked : Request → List ℕ → Option (ℕ × Access)
 access_asked DeviceDescriptor ds = None
 access_asked Bundle ds = None
-access_asked (LockData i k) ds = None
+access_asked (LockData a) ds = None
 access_asked (HighestUnit i) ds = None
 access_asked (ClearJam i) ds = None
-access_asked (PutTo p i k) ds = access_put p i ds
+access_asked (PutTo p a) ds = access_put p a.interface ds
 
 abbrev pub access_told : Option Asked → List ℕ → Option (ℕ × Access)
 access_told None ds = None
@@ -246,10 +246,10 @@ jams lay i s e = is_bulk_on i e && (step lay s e).reply.code == 16
 abbrev pub asks_clearing : ℕ → Request → Bool
 asks_clearing i DeviceDescriptor = false
 asks_clearing i Bundle = false
-asks_clearing i (LockData j k) = false
+asks_clearing i (LockData a) = false
 asks_clearing i (HighestUnit j) = false
 asks_clearing i (ClearJam j) = j == i
-asks_clearing i (PutTo p j k) = false
+asks_clearing i (PutTo p a) = false
 
 abbrev pub asked_clearing : ℕ → Option Asked → Bool
 asked_clearing i None = false

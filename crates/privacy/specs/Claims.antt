@@ -89,10 +89,10 @@ locking ChangeInterfaceAccess = false
 abbrev pub asks_put : (Put → Bool) → Layout → ℕ → Request → Bool
 asks_put kind lay u DeviceDescriptor = false
 asks_put kind lay u Bundle = false
-asks_put kind lay u (LockData i k) = false
+asks_put kind lay u (LockData a) = false
 asks_put kind lay u (HighestUnit i) = false
 asks_put kind lay u (ClearJam i) = false
-asks_put kind lay u (PutTo p i k) = is_unit (find_unit lay i k) u && kind p
+asks_put kind lay u (PutTo p a) = is_unit (find_unit lay a.interface a.unit) u && kind p
 
 abbrev pub asked_put : (Put → Bool) → Layout → ℕ → Option Asked → Bool
 asked_put kind lay u None = false

@@ -6,15 +6,11 @@ ghost use Rattle.privacy.specs.Whole.{Private};
 ghost use Rattle.privacy.specs.Instances.{Instances};
 
 // In every run a Locked unit keeps its secret, and a completed recovery leaves nothing of it.
-pub fn keeps_secrets() -> u8
+pub fn keeps_secrets()
     ensures { Private }
-{
-    0
-}
+{}
 
 // The premises can be met: two sticks that differ in a secret, and in nothing else.
-pub fn premises_met() -> u8
+pub fn premises_met()
     ensures { Instances }
-{
-    0
-}
+{}

@@ -1,2 +1,1 @@
 pub mod Records
-pub mod Texts

@@ -1,19 +1,19 @@
 // The buffer that is handed over with an event.
 // Where data go to the host there is room for an answer; in every other transfer the data arrive.
-ghost use Rattle.std.specs.Prelude.{◌≡◌, IfOk};
+ghost use Rattle.std.specs.Prelude.{◌≡◌, true, false, Ok, replicate, IfOk};
+ghost use Rattle.model.specs.Requests.{is_reading};
 ghost use Rattle.events.specs.Happenings.{event_of};
-ghost use Rattle.record.specs.Buffers.{answer_room, says_in, buffered, handed_event};
+ghost use Rattle.record.specs.Buffers.{answer_room, says_in, handed_event};
 
 use events::Event;
 use formats::setup::is_reading;
+use model::command::Direction;
 use std::alloc::{AllocError, Global};
 
 const ROOM: usize = 1024;
 
-// The flags of a CBW, and their value where data go to the host.
+// Where the flags of a CBW stand.
 const FLAGS: usize = 12;
-
-const DATA_IN: u8 = 0x80;
 
 // Zeros to be filled with an answer.
 fn zeros(heap: Global) -> Result<Vec<u8>, AllocError>
@@ -26,14 +26,24 @@ fn zeros(heap: Global) -> Result<Vec<u8>, AllocError>
 fn says_in(cbw: &[u8]) -> bool
     ensures { result ≡ says_in cbw.now }
 {
-    cbw.len() > FLAGS && cbw[FLAGS] == DATA_IN
+    cbw.get(FLAGS)
+        .is_some_and(|flags| Direction::try_from(*flags) == Ok(Direction::In))
 }
 
 // Zeros to be filled with an answer, else the data themselves.
 fn buffer_for(heap: Global, answered: bool, data: Vec<u8>) -> Result<Vec<u8>, AllocError>
-    ensures { IfOk result (λ v. v.items ≡ buffered answered «data».items) }
+    ensures zeros { answered ≡ true → IfOk result (λ v. v.items ≡ answer_room) }
+    ensures kept { answered ≡ false → result ≡ Ok «data» }
 {
     if answered { zeros(heap) } else { Ok(data) }
+}
+
+// The buffer of a control transfer: zeros to be filled by a reading, else the data themselves.
+pub fn handed_buffer(heap: Global, setup: &[u8], data: Vec<u8>) -> Result<Vec<u8>, AllocError>
+    ensures zeros { is_reading setup.now ≡ true → IfOk result (λ v. v.items ≡ replicate 1024 0) }
+    ensures kept { is_reading setup.now ≡ false → result ≡ Ok «data» }
+{
+    buffer_for(heap, is_reading(setup), data)
 }
 
 // The event with the buffer that it is handed.
@@ -42,7 +52,7 @@ pub fn handed(heap: Global, event: Event) -> Result<Event, AllocError>
 {
     match event {
         Event::Control { setup, data } => {
-            let data = buffer_for(heap, is_reading(setup.as_slice()), data)?;
+            let data = handed_buffer(heap, setup.as_slice(), data)?;
             Ok(Event::Control { setup, data })
         }
         Event::Bulk {
@@ -58,5 +68,22 @@ pub fn handed(heap: Global, event: Event) -> Result<Event, AllocError>
             })
         }
         other => Ok(other),
+    }
+}
+
+#[cfg(test)]
+mod tests {
+    use super::*;
+    use std::test::Fail;
+
+    #[test]
+    fn readings_get_room(rt: HostRuntime) -> Result<(), Fail> {
+        let heap = rt.alloc();
+        let room = handed_buffer(heap, &[0x80, 6, 0, 1, 0, 0, 18, 0], Vec::new(heap))?;
+        assert_eq!(rt; room.len(), 1024);
+        let data = vec![in heap; 7u8; 3]?;
+        let arriving = handed_buffer(heap, &[0x21, 0xFF, 0, 0, 0, 0, 0, 0], data)?;
+        assert_eq!(rt; arriving.len(), 3);
+        Ok(())
     }
 }

@@ -4,18 +4,13 @@ ghost use Rattle.record.specs.Replies.{reply_line};
 ghost use Rattle.trial.specs.Turns.{reply_in, reply_of};
 
 use crate::line::record_line;
-use events::Event;
 use std::alloc::{AllocError, Global};
 use trial::turn::{Reply, Turn};
 
 fn front(buffer: &[u8], count: usize) -> &[u8]
     ensures { result.now ≡ take count buffer.now }
 {
-    if count < buffer.len() {
-        &buffer[0..count]
-    } else {
-        buffer
-    }
+    buffer.get(..count).unwrap_or(buffer)
 }
 
 // The line of a reply, with the buffer that it was left in.
@@ -23,11 +18,14 @@ fn line_of(heap: Global, reply: Reply, buffer: &[u8]) -> Result<Vec<u8>, AllocEr
     ensures { IfOk result (λ v. v.items ≡ reply_line (reply_of reply buffer.now)) }
 {
     match reply {
-        Reply::Refused { refusal } => record_line(heap, refusal.number(), &[], &[]),
-        Reply::Answered { count } => record_line(heap, 0, &[], front(buffer, count)),
-        Reply::Completed { completion } => {
-            let csw = completion.csw;
-            record_line(heap, 0, &csw, front(buffer, completion.answered))
+        Err(refusal) => record_line(heap, u8::from(refusal), &[], &[]),
+        Ok(done) => {
+            // A match: to `map_or` the array and the empty slice are of two types.
+            let csw = match &done.csw {
+                Some(csw) => csw.as_slice(),
+                None => &[],
+            };
+            record_line(heap, 0, csw, front(buffer, done.answered))
         }
     }
 }
@@ -36,18 +34,5 @@ fn line_of(heap: Global, reply: Reply, buffer: &[u8]) -> Result<Vec<u8>, AllocEr
 pub fn turn_line(heap: Global, turn: &Turn) -> Result<Vec<u8>, AllocError>
     ensures { IfOk result (λ v. v.items ≡ reply_line (reply_in turn.now)) }
 {
-    match &turn.event {
-        Event::Control { setup: _, data } => line_of(heap, turn.reply, data.as_slice()),
-        Event::Bulk {
-            interface: _,
-            cbw: _,
-            data,
-        } => line_of(heap, turn.reply, data.as_slice()),
-        Event::Work
-        | Event::Clock { .. }
-        | Event::BusReset
-        | Event::BusSuspend
-        | Event::BusResume
-        | Event::PowerCycle => line_of(heap, turn.reply, &[]),
-    }
+    line_of(heap, turn.reply, turn.event.buffer())
 }

@@ -36,19 +36,16 @@ zeroed_next [] s n = let no : reaches [] s 512 ≡ false = grind (arith, nat_tes
 zeroed_next (b ∷ m) zero n = ap (zeroed (suc zero) n) (sym (written_first b m))
 zeroed_next (b ∷ m) (suc s) n = ap (λ x. b ∷ x) (zeroed_next m s n) ∙ ap (zeroed (suc (suc s)) n) (sym (written_behind b m s))
 
--- i blocks on
-abbrev pub Along : List Block → ℕ → ℕ → List Block → ℕ → Type 0
-Along m0 s n m i = zeroed (s + i) (n - i) m ≡ zeroed s n m0
+-- up to block e of the unit at s are still to be zeroed, from block i on
+abbrev pub Left : List Block → ℕ → ℕ → ℕ → List Block → Type 0
+Left all s i e m = zeroed (s + i) (e - i) m ≡ all
 
-module _ (m0 : List Block) (s n : ℕ) where
-  pub along_none : Along m0 s n m0 0
-  along_none = let z : s + 0 ≡ s = omega arith in let y : n - 0 ≡ n = omega arith in rw (z, y) refl
-
-  pub along_more : (m : List Block) (i : ℕ) → i < n → Along m0 s n m i → Along m0 s n (written m (s + i) zs) (i + 1)
-  along_more m i lt a =
-      let left : n - i ≡ suc (n - (i + 1)) = omega arith in
+module _ (all : List Block) (s i e : ℕ) (m : List Block) where
+  pub one_less : i < e → Left all s i e m → Left all s (i + 1) e (written m (s + i) zs)
+  one_less lt is =
+      let left : e - i ≡ suc (e - (i + 1)) = omega arith in
       let next : s + (i + 1) ≡ suc (s + i) = omega arith in
-      ap (λ x. zeroed x (n - (i + 1)) (written m (s + i) zs)) next ∙ sym (ap (λ x. zeroed (s + i) x m) left ∙ zeroed_next m (s + i) (n - (i + 1))) ∙ a
+      rw next (sym (zeroed_next m (s + i) (e - (i + 1))) ∙ ap (λ n. zeroed (s + i) n m) (sym left) ∙ is)
 
-  pub along_all : (m : List Block) (i : ℕ) → n ≤ i → Along m0 s n m i → m ≡ zeroed s n m0
-  along_all m i le a = let none : n - i ≡ 0 = omega arith in sym (zeroed_none (s + i) m) ∙ sym (ap (λ x. zeroed (s + i) x m) none) ∙ a
+  pub none_left : e ≤ i → Left all s i e m → m ≡ all
+  none_left le is = let none : e - i ≡ 0 = omega arith in sym (zeroed_none (s + i) m) ∙ ap (λ n. zeroed (s + i) n m) (sym none) ∙ is

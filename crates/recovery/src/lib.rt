@@ -8,11 +8,9 @@ ghost use Rattle.model.specs.Recovery.{zeroed};
 
 use medium::Medium;
 use model::layout::Place;
+use model::limits::{BLOCK_BYTES, STEP_BLOCKS};
 
-// The blocks of one work step.
-pub const STEP_BLOCKS: u32 = 16;
-
-const ZEROS: [u8; 512] = [0; 512];
+const ZEROS: [u8; BLOCK_BYTES] = [0; BLOCK_BYTES];
 
 // A block past the medium's end is passed over as a bad one is.
 fn zero_block<M: Medium>(medium: &mut M, start: u32, offset: u32)
@@ -27,8 +25,8 @@ fn zero_blocks<M: Medium>(medium: &mut M, start: u32, first: u32, count: u32)
     requires { first + count < 2 ^ 32 }
     ensures { M.meaning medium.new ≡ zeroed (start + first) count (M.meaning medium.old) }
 {
-    for i in 0..count {
-        zero_block(medium, start, first + i);
+    for offset in first..first + count {
+        zero_block(medium, start, offset);
     }
 }
 

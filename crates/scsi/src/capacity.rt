@@ -3,9 +3,12 @@
 ghost use Rattle.std.specs.Prelude.{◌≡◌};
 ghost use Rattle.model.specs.Commands.{capacity_data};
 
+use model::limits::BLOCK_BYTES;
+
 pub const CAPACITY_LENGTH: usize = 8;
 
-pub const BLOCK_SIZE: u32 = 512;
+// The length of a block, in the 32 bits in which a transfer's bytes are counted.
+pub const BLOCK_SIZE: u32 = BLOCK_BYTES as u32;
 
 // The answer to READ CAPACITY of a unit of so many blocks: its last address, and the length of a block.
 pub fn capacity_data(count: u32) -> [u8; CAPACITY_LENGTH]

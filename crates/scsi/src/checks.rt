@@ -1,12 +1,12 @@
 // What stands before a command's data: why it fails, how many bytes it means to move, and whether the host means the same.
 // The first check that fails decides.
 ghost use Rattle.std.specs.Prelude.{◌≡◌};
-ghost use Rattle.model.specs.Commands.{needs_open, out_of_range, wrong as wrong_with, failure as failure_of, meant as meant_by, goes as goes_by, is_other, mismatched};
+ghost use Rattle.model.specs.Commands.{needs_open, out_of_range, wrong as wrong_with, failure as failure_of, meant as meant_by, goes as goes_by, mismatched};
 
 use crate::capacity::{BLOCK_SIZE, CAPACITY_LENGTH};
 use crate::inquiry::INQUIRY_LENGTH;
 use crate::sense::SENSE_LENGTH;
-use model::command::{Command, Direction};
+use model::command::{Cbw, Command, Direction};
 use model::sense::Sense;
 
 // Whether a command is for an open unit only. The others serve a Locked and a recovering unit too.
@@ -27,11 +27,7 @@ fn out_of_range(blocks: u32, address: u32, count: u16) -> Option<Sense>
     ensures { result ≡ out_of_range blocks address count }
 {
     let end = u64::from(address) + u64::from(count);
-    if end <= u64::from(blocks) {
-        None
-    } else {
-        Some(Sense::OutOfRange)
-    }
+    (end > u64::from(blocks)).then_some(Sense::OutOfRange)
 }
 
 // What is wrong with a command on any unit of so many blocks.
@@ -54,10 +50,9 @@ fn wrong(blocks: u32, command: Command) -> Option<Sense>
 pub fn failure(blocks: u32, closed: Option<Sense>, command: Command) -> Option<Sense>
     ensures { result ≡ failure_of blocks closed command }
 {
-    match closed {
-        Some(sense) if needs_open(command) => Some(sense),
-        _ => wrong(blocks, command),
-    }
+    closed
+        .filter(|_| needs_open(command))
+        .or_else(|| wrong(blocks, command))
 }
 
 // How many bytes a command means to move: an allocation length cuts its answer.
@@ -83,19 +78,10 @@ fn goes(command: Command) -> Direction
     }
 }
 
-fn is_other(told: Direction, needed: Direction) -> bool
-    ensures { result ≡ is_other told needed }
-{
-    match (told, needed) {
-        (Direction::Out, Direction::In) | (Direction::In, Direction::Out) => true,
-        (Direction::Out, Direction::Out) | (Direction::In, Direction::In) => false,
-    }
-}
-
 // Whether a command means some bytes, but the host says the other direction or fewer bytes.
-pub fn is_mismatched(total: u32, direction: Direction, command: Command) -> bool
-    ensures { result ≡ mismatched total direction command }
+pub fn is_mismatched(cbw: Cbw) -> bool
+    ensures { result ≡ mismatched cbw.total cbw.direction cbw.command }
 {
-    let bytes = meant(command);
-    bytes > 0 && (is_other(direction, goes(command)) || total < bytes)
+    let bytes = meant(cbw.command);
+    bytes > 0 && (cbw.direction != goes(cbw.command) || cbw.total < bytes)
 }

@@ -1,30 +1,13 @@
 // The command status wrapper (CSW), which ends every bulk command: signature, tag, residue and status.
 // The tag is the host's own number for the command, handed back as it came.
 ghost use Rattle.std.specs.Prelude.{◌≡◌};
-ghost use Rattle.model.specs.Wrappers.{status_number, csw as csw_of};
+ghost use Rattle.model.specs.Wrappers.{csw as csw_of};
 
 use model::command::Status;
 
 pub const CSW_LENGTH: usize = 13;
 
 const CSW_SIGNATURE: [u8; 4] = *b"USBS";
-
-// bCSWStatus
-const PASSED: u8 = 0x00;
-
-const FAILED: u8 = 0x01;
-
-const PHASE_ERROR: u8 = 0x02;
-
-fn status_number(status: Status) -> u8
-    ensures { result ≡ status_number status }
-{
-    match status {
-        Status::Passed => PASSED,
-        Status::Failed => FAILED,
-        Status::PhaseError => PHASE_ERROR,
-    }
-}
 
 // The CSW of the command that came with this tag; the residue is what of the transfer length did not move.
 pub fn csw(tag: u32, residue: u32, status: Status) -> [u8; CSW_LENGTH]
@@ -46,6 +29,6 @@ pub fn csw(tag: u32, residue: u32, status: Status) -> [u8; CSW_LENGTH]
         r1,
         r2,
         r3,
-        status_number(status),
+        u8::from(status),
     ]
 }

@@ -1,8 +1,10 @@
 // The command block wrapper (CBW), which begins every bulk command: signature, tag (4), transfer length (4), flags, unit,
 // command length, command (16). Taken apart by patterns, and judged by itself.
-ghost use Rattle.std.specs.Prelude.{◌≡◌, ◌%◌, ◌&&◌, length, ◌==◌, nat_le};
+ghost use Rattle.std.specs.Prelude.{◌≡◌, ◌%◌, ◌&&◌, length, ok_or, ◌==◌, nat_le};
 ghost use Rattle.model.specs.Bytes.{between};
-ghost use Rattle.model.specs.Wrappers.{direction_told, command_length, command_in, is_signed, cbw_in, judged_cbw};
+ghost use Rattle.model.specs.Refusals.{number_of};
+ghost use Rattle.model.specs.Wrappers.{command_length, command_in, is_signed, cbw_in, judged_cbw};
+ghost use Rattle.model.specs.declared.refusal.Refusal.TheVariants.{BadCommandBlock};
 
 use model::command::{Cbw, Command, Direction};
 use model::refusal::Refusal;
@@ -16,11 +18,6 @@ const CBW_SIGNATURE: [u8; 4] = *b"USBC";
 const COMMAND_START: usize = 15;
 
 const COMMAND_BYTES: u8 = 16;
-
-// bmCBWFlags
-const DIRECTION_OUT: u8 = 0x00;
-
-const DIRECTION_IN: u8 = 0x80;
 
 // Operation codes, the first byte of a command
 const TEST_UNIT_READY: u8 = 0x00;
@@ -37,16 +34,6 @@ const WRITE_10: u8 = 0x2A;
 
 // Bit 0 of a command's second byte: DESC of REQUEST SENSE, EVPD of INQUIRY. Neither is served.
 const DESC_OR_EVPD: u8 = 0x01;
-
-fn direction_told(flags: u8) -> Option<Direction>
-    ensures { result ≡ direction_told flags }
-{
-    match flags {
-        DIRECTION_OUT => Some(Direction::Out),
-        DIRECTION_IN => Some(Direction::In),
-        _ => None,
-    }
-}
 
 // The bytes of a listed command; of an unlisted one any command length is in order.
 fn command_length(code: u8) -> u8
@@ -106,12 +93,12 @@ fn is_signed(cbw: &[u8]) -> bool
 fn is_covered(length: u8, code: u8) -> bool
     ensures { result ≡ (between 1 16 length && nat_le (command_length code) length) }
 {
-    length <= COMMAND_BYTES && command_length(code) <= length
+    (command_length(code)..=COMMAND_BYTES).contains(&length)
 }
 
-// What a CBW asks for, or none where it is not in order.
-pub fn read_cbw(cbw: &[u8]) -> Option<Cbw>
-    ensures { result ≡ cbw_in cbw.now }
+// What a CBW asks for, or the refusal of one that is not in order.
+pub fn read_cbw(cbw: &[u8]) -> Result<Cbw, Refusal>
+    ensures { result ≡ ok_or (cbw_in cbw.now) BadCommandBlock }
 {
     let [
         _,
@@ -131,29 +118,29 @@ pub fn read_cbw(cbw: &[u8]) -> Option<Cbw>
         length,
         code,
         ..
-    ] = cbw
+    ] = *cbw
     else {
-        return None;
+        return Err(Refusal::BadCommandBlock);
     };
-    if cbw.len() != CBW_LENGTH || !is_signed(cbw) || !is_covered(*length, *code) {
-        return None;
+    if cbw.len() != CBW_LENGTH || !is_signed(cbw) || !is_covered(length, code) {
+        return Err(Refusal::BadCommandBlock);
     }
-    Some(Cbw {
-        tag: u32::from_le_bytes([*t0, *t1, *t2, *t3]),
-        total: u32::from_le_bytes([*h0, *h1, *h2, *h3]),
-        direction: direction_told(*flags)?,
-        unit: *unit,
+    Ok(Cbw {
+        tag: u32::from_le_bytes([t0, t1, t2, t3]),
+        total: u32::from_le_bytes([h0, h1, h2, h3]),
+        direction: Direction::try_from(flags)?,
+        unit,
         command: read_command(cbw),
     })
 }
 
-// The judgement of a CBW by its bytes and the highest unit of its interface: 0, or the
-// refusal 16 (not in order, or no such unit).
-pub fn judge_cbw(cbw: &[u8], highest: u8) -> u8
-    ensures { result ≡ judged_cbw cbw.now highest }
+// The judgement of a CBW by its bytes and the highest unit of its interface: one for no such unit is not in order either.
+pub fn judge_cbw(cbw: &[u8], highest: u8) -> Result<(), Refusal>
+    ensures { number_of result ≡ judged_cbw cbw.now highest }
 {
-    match read_cbw(cbw) {
-        Some(read) if read.unit <= highest => 0,
-        _ => Refusal::BadCommandBlock.number(),
+    let read = read_cbw(cbw)?;
+    if read.unit > highest {
+        return Err(Refusal::BadCommandBlock);
     }
+    Ok(())
 }

@@ -1,14 +1,16 @@
 // The judgement of a CBW, exported to the controller's C program.
-// It is the library's own, under its name and with its clauses.
+// It is the library's own, under its name, with its answer as a number.
 #![tactic(auto)]
 
 ghost use Rattle.std.specs.Prelude.{◌≡◌};
 ghost use Rattle.model.specs.Wrappers.{judged_cbw};
+
+use model::refusal::number_of;
 
 // Of a CBW by its bytes and the highest unit of its interface: 0, or the refusal 16 (not in order, or no such unit).
 #[unsafe(no_mangle)]
 pub extern "C" fn judge_cbw(cbw: &[u8], highest: u8) -> u8
     ensures { result ≡ judged_cbw cbw.now highest }
 {
-    scsi::wrapper::judge_cbw(cbw, highest)
+    number_of(scsi::wrapper::judge_cbw(cbw, highest))
 }

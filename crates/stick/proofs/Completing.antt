@@ -7,12 +7,10 @@ use Rattle.model.specs.Bulk.{Bulked, bulk_with, command, place_at, turned_down, 
 use Rattle.model.specs.Commands.{Ending, barrier, performed}
 use Rattle.model.specs.Control.{alter, unit_at}
 use Rattle.model.specs.Layouts.{Layout}
-use Rattle.model.specs.Refusals.{refusal_number}
 use Rattle.model.specs.Sticks.{Stick, stick}
 use Rattle.model.specs.Wrappers.{csw}
 use Rattle.model.specs.declared.command.Cbw.{Cbw}
 use Rattle.model.specs.declared.layout.Place.{Place}
-use Rattle.model.specs.declared.refusal.Refusal.{Refusal}
 use Rattle.model.specs.declared.refusal.Refusal.TheVariants as refusal
 use Rattle.model.specs.declared.sense.Sense.{Sense}
 use Rattle.stick.specs.Completions.{handed_back, unit_commanded}
@@ -22,25 +20,6 @@ target p b n = record { place = p; closed = b; sense = n }
 
 abbrev pub unit_target : Layout → ℕ → Stick → Target
 unit_target lay v s = target (place_at lay v) (barrier (unit_at v s).standing) (unit_at v s).sense
-
--- no refusal has the number 0
-pub numbered : (r : Refusal) → eqb (refusal_number r) 0 ≡ false
-numbered refusal.Layout = refl
-numbered refusal.Medium = refl
-numbered refusal.OutsideMedium = refl
-numbered refusal.BadBlock = refl
-numbered refusal.Idle = refl
-numbered refusal.Gone = refl
-numbered refusal.Unlisted = refl
-numbered refusal.Absent = refl
-numbered refusal.WrongLength = refl
-numbered refusal.Recovering = refl
-numbered refusal.WrongState = refl
-numbered refusal.Malformed = refl
-numbered refusal.Incorrect = refl
-numbered refusal.ShortBuffer = refl
-numbered refusal.Jammed = refl
-numbered refusal.BadCommandBlock = refl
 
 module _ (v : ℕ) (c : Cbw) (s : Stick) where
   abbrev pub finished : Ending → List ℕ → Bulked
@@ -54,9 +33,6 @@ module _ (v : ℕ) (c : Cbw) (s : Stick) where
   -- the stick and the buffer, with what was carried out
   abbrev pub out : Carried → Bulked
   out k = cond (eqb k.code 0) (finished k.ending k.buffer) (refused k.code k.ending.blocks k.buffer)
-
-  pub out_refused : (r : Refusal) (buf : List ℕ) (m : List Block) → out (turned r buf m) ≡ refused (refusal_number r) m buf
-  out_refused r buf m = let k = turned r buf m in ap (λ b. cond b (finished k.ending buf) (refused (refusal_number r) m buf)) (numbered r)
 
   way : (lay : Layout) (ds : List ℕ) (e : Ending) (b : Bool) → e ≡ performed (place_at lay v) (barrier (unit_at v s).standing) (unit_at v s).sense c.total c.direction c.command ds s.blocks
       → out (cond b (turned refusal.ShortBuffer ds s.blocks) (done e ds)) ≡ handed_back ds (cond b (turned_down refusal.ShortBuffer s) (command lay v c ds s))

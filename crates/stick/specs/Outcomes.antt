@@ -1,7 +1,5 @@
 -- What the results of calls mean, in the model's words.
 use Rattle.std.specs.Prelude.{ℕ, List, [], take, Ok, Err, Result}
-use Rattle.answers.specs.Answers.{answer_of}
-use Rattle.answers.specs.declared.answer.Answer.{Answer}
 use Rattle.model.specs.Control.{Outcome, outcome, refuse, Transferred, transferred}
 use Rattle.model.specs.Refusals.{refusal_number}
 use Rattle.model.specs.Sticks.{Stick}
@@ -12,8 +10,8 @@ use Rattle.model.specs.declared.refusal.Refusal.{Refusal}
 use Rattle.model.specs.declared.refusal.Refusal.TheVariants.{Idle, Gone}
 
 -- an answer or a refusal, with the stick afterwards
-abbrev pub outcome_of : Result Answer Refusal → Stick → Outcome
-outcome_of (Ok a) s = outcome 0 (answer_of a) s
+abbrev pub outcome_of : Result (List ℕ) Refusal → Stick → Outcome
+outcome_of (Ok bs) s = outcome 0 bs s
 outcome_of (Err r) s = refuse r s
 
 -- acceptance or a refusal

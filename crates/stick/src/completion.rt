@@ -1,6 +1,8 @@
 // What a bulk command answers: the CSW, and how many bytes at the buffer's front.
+use scsi::status::CSW_LENGTH;
+
 #[derive(Clone, Copy)]
 pub struct Completion {
-    pub csw: [u8; 13],
+    pub csw: [u8; CSW_LENGTH],
     pub answered: usize,
 }

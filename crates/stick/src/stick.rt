@@ -1,6 +1,6 @@
 // A stick over any medium, without power and running.
 // The two are types of their own, and each becomes the other: power-up takes one and yields the other, power-down takes it back.
-ghost use Rattle.std.specs.Prelude.{◌≡◌};
+ghost use Rattle.std.specs.Prelude.{◌≡◌, length};
 
 pub mod bulk;
 mod changes;
@@ -8,6 +8,7 @@ pub mod clock;
 pub mod control;
 pub mod power;
 mod readings;
+mod stage;
 pub mod work;
 
 use interfaces::table::Interfaces;
@@ -23,6 +24,7 @@ pub struct Unpowered<M: Medium> {
     medium: M,
 }
 
+// No call changes the layout, and each says so: that a call leaves a field is a fact of two values, which no type of one can say.
 #[derive(Drop)]
 pub struct Running<M: Medium> {
     layout: Layout,
@@ -30,5 +32,5 @@ pub struct Running<M: Medium> {
     interfaces: Interfaces,
     phase: Phase,
     medium: M,
-    ghost paired: { interfaces.count ≡ layout.interface_count },
+    ghost paired: { length interfaces ≡ length layout.counts },
 }

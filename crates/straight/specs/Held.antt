@@ -4,4 +4,4 @@ use Rattle.model.specs.Blocks.{Block, blocks}
 use Rattle.straight.specs.declared.Straight.{Straight}
 
 abbrev pub meaning_of : Straight → List Block
-meaning_of s = blocks (vec_items s.memory) (vec_items s.runs) s.count
+meaning_of s = blocks (vec_items s.store.memory) (vec_items s.store.runs) s.store.count

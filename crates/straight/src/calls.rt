@@ -8,26 +8,23 @@ ghost use Rattle.medium.proofs.Mapped.{length_mapped, whole_mapped};
 ghost use Rattle.std.proofs.Common.{arith};
 
 use crate::Straight;
-use medium::admission::admit;
-use medium::{Medium, PAGE};
+use medium::Medium;
 use model::refusal::Fault;
 
 impl Medium for Straight {
     ghost meaning = { meaning_of };
 
-    ghost few = { λ s. rw length_mapped s.few };
+    ghost few = { λ s. rw length_mapped s.store.few };
 
-    ghost whole = { λ s. whole_mapped s.memory.items s.runs.items (λ b. b) s.count (λ b h. omega arith) };
+    ghost whole = { λ s. whole_mapped s.store.memory.items s.store.runs.items (λ b. b) s.store.count (λ b h. let r = s.store.room (omega arith) in let l = s.store.memory.ok.0 in omega arith) };
 
     fn blocks(&self) -> u32 {
-        self.count
+        self.store.count
     }
 
     fn read(&self, block: u32, buffer: &mut [u8]) -> Result<(), Fault> {
-        admit(self.runs.as_slice(), self.count, block, buffer.len())?;
-        let at = PAGE * block as usize;
-        let memory = self.memory.as_slice();
-        buffer.copy_from_slice(&memory[at..at + PAGE]);
+        self.store.admit(block, buffer.len())?;
+        buffer.copy_from_slice(self.store.page(block));
         Ok(())
     }
 
@@ -35,12 +32,10 @@ impl Medium for Straight {
     fn write(&mut self, block: u32, bytes: &[u8]) -> Result<(), Fault>
         ensures answer { result ≡ answer (meaning_of self.old) block (length bytes.now) }
         ensures after { meaning_of self.new ≡ written (meaning_of self.old) block bytes.now }
-        ensures memory { self.new.memory.items ≡ (if is_ok result then with_page self.old.memory.items block bytes.now else self.old.memory.items) }
+        ensures memory { self.new.store.memory.items ≡ (if is_ok result then with_page self.old.store.memory.items block bytes.now else self.old.store.memory.items) }
     {
-        admit(self.runs.as_slice(), self.count, block, bytes.len())?;
-        let at = PAGE * block as usize;
-        let memory = self.memory.as_mut_slice();
-        memory[at..at + PAGE].copy_from_slice(bytes);
+        self.store.admit(block, bytes.len())?;
+        self.store.set_page(block, bytes);
         Ok(())
     }
 }

@@ -5,17 +5,9 @@
 mod calls;
 mod fitting;
 
-ghost use Rattle.std.specs.Prelude.{◌*◌, ◌≤◌, vec_len};
+use medium::store::Store;
 
-pub use fitting::{fit, inspect};
-use model::layout::BadRun;
-
-// With no blocks nothing is reached, and the memory may be of any size.
 #[derive(Drop)]
 pub struct Straight {
-    memory: Vec<u8>,
-    runs: Vec<BadRun>,
-    count: u32,
-    ghost room: { 512 * count ≤ vec_len memory },
-    ghost few: { count ≤ 1024 },
+    store: Store<0>,
 }

@@ -1,7 +1,6 @@
 // Events performed on a running stick, one and a list.
 ghost use Rattle.std.specs.Prelude.{◌≡◌, ℕ, ◌≤◌, List, map, length, IfOk};
 ghost use Rattle.events.specs.Happenings.{buffer_of, event_of, unhanded};
-ghost use Rattle.layout.specs.Tables.{layout_of};
 ghost use Rattle.model.specs.Events.{after_bulk, after_control, replies, run as run_on, step, stepped};
 ghost use Rattle.model.specs.Sticks.{Stick};
 ghost use Rattle.stick.specs.Completions.{bulk_of};
@@ -9,41 +8,35 @@ ghost use Rattle.stick.specs.Meaning.{stick_of};
 ghost use Rattle.stick.specs.Outcomes.{transfer_of};
 ghost use Rattle.trial.specs.Turns.{count_of, event_in, reply_in, reply_of};
 
-use crate::turn::{NOTHING, Reply, Turn};
+use crate::turn::{Done, NOTHING, Reply, Turn};
 use events::Event;
 use medium::Medium;
 use model::refusal::Refusal;
 use stick::completion::Completion;
 use stick::stick::Running;
 
+// Two functions, not one over both answers: each is said in its own call's words, and no word is common to them.
 fn control_reply(res: Result<usize, Refusal>) -> Reply
     ensures step { (buf : List ℕ) (s : Stick) → stepped (reply_of result buf) s ≡ after_control (transfer_of res buf s) }
     ensures bound { (k : ℕ) → IfOk res (λ n. n ≤ k) → count_of result ≤ k }
 {
-    match res {
-        Ok(count) => Reply::Answered { count },
-        Err(refusal) => Reply::Refused { refusal },
-    }
+    res.map(Done::from)
 }
 
 fn bulk_reply(res: Result<Completion, Refusal>) -> Reply
     ensures step { (buf : List ℕ) (s : Stick) → stepped (reply_of result buf) s ≡ after_bulk (bulk_of res buf s) }
     ensures bound { (k : ℕ) → IfOk res (λ c. c.answered ≤ k) → count_of result ≤ k }
 {
-    match res {
-        Ok(completion) => Reply::Completed { completion },
-        Err(refusal) => Reply::Refused { refusal },
-    }
+    res.map(Done::from)
 }
 
 // Performs an event; its buffer holds afterwards what the stick left in it, and nothing else of it is changed.
-pub fn perform<M: Medium>(stick: Running<M>, event: &mut Event) -> (Running<M>, Reply)
+pub fn perform<M: Medium>(mut stick: Running<M>, event: &mut Event) -> (Running<M>, Reply)
     ensures bound { count_of result.1 ≤ length (buffer_of event.new) }
     ensures kept { unhanded (event_of event.new) ≡ unhanded (event_of event.old) }
-    ensures step { stepped (reply_of result.1 (buffer_of event.new)) (stick_of M.meaning result.0) ≡ step (layout_of stick.layout) (stick_of M.meaning stick) (event_of event.old) }
-    ensures layout { layout_of result.0.layout ≡ layout_of stick.layout }
+    ensures step { stepped (reply_of result.1 (buffer_of event.new)) (stick_of M.meaning result.0) ≡ step stick.layout (stick_of M.meaning stick) (event_of event.old) }
+    ensures layout { result.0.layout ≡ stick.layout }
 {
-    let mut stick = stick;
     match event {
         Event::Control { setup, data } => {
             let result = stick.control(setup.as_slice(), data.as_mut_slice());
@@ -84,8 +77,8 @@ pub fn perform<M: Medium>(stick: Running<M>, event: &mut Event) -> (Running<M>, 
 // Performs the event of a turn, and keeps the reply beside it.
 pub fn take_turn<M: Medium>(stick: Running<M>, turn: &mut Turn) -> Running<M>
     ensures kept { unhanded (event_in turn.new) ≡ unhanded (event_in turn.old) }
-    ensures step { stepped (reply_in turn.new) (stick_of M.meaning result) ≡ step (layout_of stick.layout) (stick_of M.meaning stick) (event_in turn.old) }
-    ensures layout { layout_of result.layout ≡ layout_of stick.layout }
+    ensures step { stepped (reply_in turn.new) (stick_of M.meaning result) ≡ step stick.layout (stick_of M.meaning stick) (event_in turn.old) }
+    ensures layout { result.layout ≡ stick.layout }
 {
     let (next, reply) = perform(stick, &mut turn.event);
     turn.reply = reply;
@@ -93,13 +86,12 @@ pub fn take_turn<M: Medium>(stick: Running<M>, turn: &mut Turn) -> Running<M>
 }
 
 // Runs a list of events, oldest first: each turn has its reply afterwards.
-pub fn run<M: Medium>(stick: Running<M>, turns: &mut Vec<Turn>) -> Running<M>
+pub fn run<M: Medium>(mut stick: Running<M>, turns: &mut Vec<Turn>) -> Running<M>
     ensures kept { map unhanded (map event_in turns.new.items) ≡ map unhanded (map event_in turns.old.items) }
-    ensures end { stick_of M.meaning result ≡ run_on (layout_of stick.layout) (stick_of M.meaning stick) (map event_in turns.old.items) }
-    ensures replies { map reply_in turns.new.items ≡ replies (layout_of stick.layout) (stick_of M.meaning stick) (map event_in turns.old.items) }
-    ensures layout { layout_of result.layout ≡ layout_of stick.layout }
+    ensures end { stick_of M.meaning result ≡ run_on stick.layout (stick_of M.meaning stick) (map event_in turns.old.items) }
+    ensures replies { map reply_in turns.new.items ≡ replies stick.layout (stick_of M.meaning stick) (map event_in turns.old.items) }
+    ensures layout { result.layout ≡ stick.layout }
 {
-    let mut stick = stick;
     for turn in turns.iter_mut() {
         stick = take_turn(stick, turn);
     }

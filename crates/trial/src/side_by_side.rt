@@ -29,6 +29,7 @@ fn live<M: Medium>(
 
 // Two sticks, each fitted, powered up and run through a history of its own, and both through further events: every event gets the reply
 // that is defined for it, and where both were handed the same further events, a Locked unit's secret shows in none of them.
+// The lists are lent one by one, since each is written to: behind a struct of them no clause could say what a list holds afterwards.
 pub fn side_by_side<M: Medium, N: Medium>(
     first: M,
     first_layout: &[u8],

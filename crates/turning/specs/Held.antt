@@ -6,7 +6,7 @@ use Rattle.turning.specs.declared.Turning.{Turning}
 
 -- block b on page number b of the list
 abbrev pub meaning_of : Turning → List Block
-meaning_of s = mapped_blocks (vec_items s.memory) (vec_items s.runs) (λ b. slice_index s.pages b) s.count
+meaning_of s = mapped_blocks (vec_items s.store.memory) (vec_items s.store.runs) (λ b. slice_index s.pages b) s.store.count
 
 pub record Laid : Type 0 where
   pub memory : List ℕ
@@ -17,7 +17,7 @@ abbrev pub laid_as : List ℕ → List ℕ → ℕ → Laid
 laid_as m ps s = record { memory = m; pages = ps; spare = s }
 
 abbrev pub laid : Turning → Laid
-laid s = laid_as (vec_items s.memory) s.pages s.spare
+laid s = laid_as (vec_items s.store.memory) s.pages s.spare
 
 -- block b moves to the spare page with its new bytes, and the page that it gives up is the spare
 abbrev pub turned : Laid → ℕ → List ℕ → Laid

@@ -7,28 +7,27 @@ ghost use Rattle.medium.proofs.Mapped.{length_mapped, whole_mapped};
 ghost use Rattle.std.proofs.Common.{arith};
 
 use crate::Turning;
-use medium::admission::admit;
-use medium::{Medium, PAGE};
+use medium::Medium;
 use model::refusal::Fault;
+use std::mem;
 
 impl Medium for Turning {
     ghost meaning = { meaning_of };
 
-    ghost few = { λ s. rw length_mapped s.few };
+    ghost few = { λ s. rw length_mapped s.store.few };
 
     ghost whole = { λ s.
-        whole_mapped s.memory.items s.runs.items (λ b. slice_index s.pages b) s.count
-        (λ b h. let p = s.within b h in let r = s.room (omega arith) in let l = s.memory.ok.0 in omega arith) };
+        whole_mapped s.store.memory.items s.store.runs.items (λ b. slice_index s.pages b) s.store.count
+        (λ b h. let p = s.within b h in let r = s.store.room (omega arith) in let l = s.store.memory.ok.0 in omega arith) };
 
     fn blocks(&self) -> u32 {
-        self.count
+        self.store.count
     }
 
     fn read(&self, block: u32, buffer: &mut [u8]) -> Result<(), Fault> {
-        admit(self.runs.as_slice(), self.count, block, buffer.len())?;
-        let at = PAGE * usize::from(self.pages[block as usize]);
-        let memory = self.memory.as_slice();
-        buffer.copy_from_slice(&memory[at..at + PAGE]);
+        self.store.admit(block, buffer.len())?;
+        let page = self.pages[block as usize];
+        buffer.copy_from_slice(self.store.page(u32::from(page)));
         Ok(())
     }
 
@@ -38,13 +37,9 @@ impl Medium for Turning {
         ensures after { meaning_of self.new ≡ written (meaning_of self.old) block bytes.now }
         ensures turns { laid self.new ≡ (if is_ok result then turned (laid self.old) block bytes.now else laid self.old) }
     {
-        admit(self.runs.as_slice(), self.count, block, bytes.len())?;
-        let spare = self.spare;
-        let at = PAGE * usize::from(spare);
-        let memory = self.memory.as_mut_slice();
-        memory[at..at + PAGE].copy_from_slice(bytes);
-        self.spare = self.pages[block as usize];
-        self.pages[block as usize] = spare;
+        self.store.admit(block, bytes.len())?;
+        self.store.set_page(u32::from(self.spare), bytes);
+        mem::swap(&mut self.spare, &mut self.pages[block as usize]);
         Ok(())
     }
 }

@@ -1,38 +1,31 @@
-// Fitting a turning medium to its memory.
-// What is asked first and what is fitted then go by the same rules, with one page to spare.
-ghost use Rattle.std.specs.Prelude.{◌≡◌, ℕ, ◌<◌, length, if◌then◌else◌, Ok, Err, slice_index};
-ghost use Rattle.model.specs.Blocks.{medium_rules, fitted_blocks};
-ghost use Rattle.model.specs.declared.refusal.Refusal.TheVariants.{Medium as BadMedium};
+// Fitting a turning medium to its memory, which has one page to spare.
+ghost use Rattle.std.specs.Prelude.{◌≡◌, ℕ, ◌<◌, slice_index};
+ghost use Rattle.model.specs.Blocks.{fitted_blocks};
 ghost use Rattle.turning.specs.Held.{meaning_of};
 
 use crate::Turning;
 use crate::pages::identity;
-use medium::rules;
+use medium::Fitted;
+use medium::store::Store;
 use model::layout::BadRun;
-use model::refusal::Refusal;
 
-const SPARE: u8 = 1;
+impl Fitted for Turning {
+    ghost SPARE = { 1 };
 
-// Whether a turning medium can be fitted to the memory and the bad runs.
-pub fn inspect(memory: &[u8], runs: &[BadRun]) -> Result<(), Refusal>
-    ensures { result ≡ (if medium_rules 1 (length memory.now) runs.now then Ok tt else Err BadMedium) }
-{
-    rules::inspect(SPARE, memory.len(), runs)?;
-    Ok(())
-}
+    const SPARE: u8 = 1;
 
-// Fits a medium to its memory, with no blocks where a rule is broken.
-pub fn fit(memory: Vec<u8>, runs: Vec<BadRun>) -> Turning
-    ensures meaning { meaning_of result ≡ fitted_blocks 1 memory.items runs.items }
-    ensures memory { result.memory.items ≡ memory.items }
-    ensures pages { (b : ℕ) → b < result.count → slice_index result.pages b ≡ b }
-{
-    let count = rules::inspect(SPARE, memory.len(), runs.as_slice()).unwrap_or(0);
-    Turning {
-        memory,
-        runs,
-        pages: identity(),
-        spare: count as u16,
-        count,
+    // Besides what every make promises: the memory is left as it was, and each block lies on the page of its number.
+    fn fit(memory: Vec<u8>, runs: Vec<BadRun>) -> Turning
+        ensures meaning { meaning_of result ≡ fitted_blocks 1 memory.items runs.items }
+        ensures memory { result.store.memory.items ≡ memory.items }
+        ensures pages { (b : ℕ) → b < result.store.count → slice_index result.pages b ≡ b }
+    {
+        let store = Store::fit(memory, runs);
+        let spare = store.count as u16;
+        Turning {
+            store,
+            pages: identity(),
+            spare,
+        }
     }
 }

@@ -6,26 +6,21 @@ mod calls;
 mod fitting;
 mod pages;
 
-ghost use Rattle.std.specs.Prelude.{◌≡◌, ◌+◌, ◌*◌, ◌<◌, ◌≤◌, length, vec_len};
+ghost use Rattle.std.specs.Prelude.{◌≡◌, ◌≤◌, length};
 ghost use Rattle.turning.specs.Pages.{Within, Distinct, Spared};
 
-pub use fitting::{fit, inspect};
 use medium::MOST_BLOCKS;
-use model::layout::BadRun;
+use medium::store::Store;
 
-// With no blocks nothing is reached, and the memory may be of any size.
+// A page map of its own is no plainer: all facts but `full` speak of the number of blocks, which the map would keep a second time.
 #[derive(Drop)]
 pub struct Turning {
-    memory: Vec<u8>,
-    runs: Vec<BadRun>,
+    store: Store<1>,
     pages: [u16; MOST_BLOCKS],
     spare: u16,
-    count: u32,
-    ghost room: { (0 < count → 512 * (count + 1) ≤ vec_len memory) },
-    ghost few: { count ≤ 1024 },
     ghost full: { length pages ≡ 1024 },
-    ghost beside: { spare ≤ count },
-    ghost within: { Within pages count },
-    ghost distinct: { Distinct pages count },
-    ghost spared: { Spared pages spare count },
+    ghost beside: { spare ≤ store.count },
+    ghost within: { Within pages store.count },
+    ghost distinct: { Distinct pages store.count },
+    ghost spared: { Spared pages spare store.count },
 }

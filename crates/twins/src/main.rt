@@ -2,28 +2,28 @@
 // It prints both records of the common script, and the first line at which they differ.
 #![tactic(auto)]
 
-ghost use Rattle.std.specs.Prelude.{◌≤◌, length};
-
 use anyhow::anyhow;
-use events::Event;
-use lines::line::{Line, read_line};
-use medium::Medium;
+use console::fits::{chosen_fit, inspected_memory};
+use console::serving::serve_lines;
+use lines::line::read_line;
+use medium::{Fitted, Medium};
 use options::choice::{Fit, Make};
-use options::fitting::reason;
-use options::read::read_options;
 use record::buffer::handed;
 use record::turn::turn_line;
 use std::alloc::{AllocError, Global};
-use std::io::{BufRead, BufReader, Write};
+use std::io::Write;
 use std::process::ExitCode;
 use std::{env, fs};
+use straight::Straight;
 use trial::side_by_side::side_by_side;
-use trial::turn::{NOTHING, Turn};
+use trial::turn::Turn;
+use turning::Turning;
 
 const USAGE: &str = "usage: twins FIRST SECOND COMMON [OPTIONS] [-- OPTIONS]
 FIRST and SECOND set the two sticks up, COMMON is for both; the options are the bench's, before -- for the first stick, behind it for the second";
 
 // A script as turns that are still to be taken, and the line that each stands on.
+// The two lists stay apart, since a run takes a list of turns alone, in place.
 #[derive(Drop)]
 struct Script {
     turns: Vec<Turn>,
@@ -39,29 +39,44 @@ struct Side<M> {
     common: Script,
 }
 
-fn add_line(heap: Global, script: &mut Script, line: &[u8], number: u64) -> anyhow::Result<()> {
-    match read_line(heap, line) {
-        Ok(Line::Blank) => Ok(()),
-        Ok(Line::Event(event)) => {
-            let event = handed(heap, event)?;
-            script.turns.push(Turn {
-                event,
-                reply: NOTHING,
-            })?;
-            script.lines.push(number)?;
-            Ok(())
+// A stick that passed inspection, on memory of zeros, with its scripts.
+#[derive(Drop)]
+struct Inspected {
+    fit: Fit,
+    memory: Vec<u8>,
+    setup: Script,
+    common: Script,
+}
+
+impl Inspected {
+    // The side with a medium of this make.
+    fn fitted<M: Fitted>(self) -> Side<M> {
+        let Inspected {
+            fit: Fit { layout, runs, .. },
+            memory,
+            setup,
+            common,
+        } = self;
+        Side {
+            medium: M::fit(memory, runs),
+            layout,
+            setup,
+            common,
         }
-        Err(error) => Err(anyhow!(format!(in heap; "{error}")?)),
     }
+}
+
+fn with_line(heap: Global, mut script: Script, line: &[u8], number: u64) -> anyhow::Result<Script> {
+    if let Some(event) = read_line(heap, line)? {
+        let event = handed(heap, event)?;
+        script.turns.push(Turn::new(event))?;
+        script.lines.push(number)?;
+    }
+    Ok(script)
 }
 
 fn read_script(rt: &HostRuntime, path: &str) -> anyhow::Result<Script> {
     let heap = rt.alloc();
-    let mut script = Script {
-        turns: Vec::new(heap),
-        lines: Vec::new(heap),
-    };
-    let mut number = 0u64;
     let file = match fs::open(rt, path) {
         Ok(file) => file,
         Err(error) => {
@@ -69,15 +84,15 @@ fn read_script(rt: &HostRuntime, path: &str) -> anyhow::Result<Script> {
             return Err(error.into());
         }
     };
-    for line in BufReader::new(heap, file)?.lines(heap) {
-        number = number.saturating_add(1);
-        let line = line?;
-        if let Err(error) = add_line(heap, &mut script, line.as_bytes(), number) {
-            eprintln!(rt; "{path}, line {number}: {error}")?;
-            return Err(error);
-        }
-    }
-    Ok(script)
+    let none = Script {
+        turns: Vec::new(heap),
+        lines: Vec::new(heap),
+    };
+    let place = format!(in heap; "{path}, ")?;
+    let script = serve_lines(rt, file, place.as_str(), none, |script, number, line| {
+        with_line(heap, script, line, number)
+    })?;
+    script.ok_or(anyhow!("a malformed line"))
 }
 
 // Prints the record of a stick, each line behind the stick's number.
@@ -93,24 +108,11 @@ fn print_record(rt: &HostRuntime, stick: u8, turns: &[Turn]) -> anyhow::Result<(
     Ok(())
 }
 
-// The buffer that an event was handed, as the stick left it.
-fn buffer_of(event: &Event) -> &[u8] {
-    match event {
-        Event::Control { setup: _, data } => data.as_slice(),
-        Event::Bulk {
-            interface: _,
-            cbw: _,
-            data,
-        } => data.as_slice(),
-        _ => &[],
-    }
-}
-
 // Whether two sticks agreed on an event: number, all that is answered, and the buffer afterwards.
 fn is_agreed(heap: Global, first: &Turn, second: &Turn) -> Result<bool, AllocError> {
     let one = turn_line(heap, first)?;
     let other = turn_line(heap, second)?;
-    Ok(one.as_slice() == other.as_slice() && buffer_of(&first.event) == buffer_of(&second.event))
+    Ok(one.as_slice() == other.as_slice() && first.event.buffer() == second.event.buffer())
 }
 
 // Says where the two records differ first.
@@ -164,109 +166,34 @@ fn run<M: Medium + Drop, N: Medium + Drop>(
     compare(rt, &first_common, &second_common)
 }
 
-// The options of one stick, or the usage on standard error.
-fn chosen_fit(rt: &HostRuntime, words: &[String]) -> anyhow::Result<Fit> {
-    match read_options(rt.alloc(), words) {
-        Ok(fit) => Ok(fit),
-        Err(mistake) => {
-            eprintln!(rt; "{mistake}\n{USAGE}")?;
-            Err(anyhow!("a command line that is none of twins'"))
-        }
-    }
-}
-
-// Memory of zeros for a stick that passes inspection, or its number on standard error.
-fn inspected_memory(rt: &HostRuntime, fit: &Fit) -> anyhow::Result<Vec<u8>> {
-    let heap = rt.alloc();
-    let refusal = match fit.memory_bytes() {
-        Ok(bytes) => {
-            let memory = vec![in heap; 0u8; bytes]?;
-            match fit.inspect(memory.as_slice()) {
-                Ok(()) => return Ok(memory),
-                Err(refusal) => refusal,
-            }
-        }
-        Err(refusal) => refusal,
-    };
-    let number = refusal.number();
-    let reason = reason(refusal);
-    eprintln!(rt; "refused {number}: {reason}")?;
-    Err(anyhow!("a stick that inspection refuses"))
-}
-
 // The second stick is fitted, and both run.
 fn run_second<M: Medium + Drop>(
     rt: &HostRuntime,
     first: Side<M>,
-    fit: Fit,
-    setup: Script,
-    common: Script,
+    second: Inspected,
 ) -> anyhow::Result<()> {
-    let memory = inspected_memory(rt, &fit)?;
-    let Fit {
-        layout,
-        make,
-        blocks: _,
-        runs,
-    } = fit;
-    match make {
-        Make::Straight => {
-            let medium = straight::fit(memory, runs);
-            run(
-                rt,
-                first,
-                Side {
-                    medium,
-                    layout,
-                    setup,
-                    common,
-                },
-            )
-        }
-        Make::Turning => {
-            let medium = turning::fit(memory, runs);
-            run(
-                rt,
-                first,
-                Side {
-                    medium,
-                    layout,
-                    setup,
-                    common,
-                },
-            )
-        }
+    match second.fit.make {
+        Make::Straight => run(rt, first, second.fitted::<Straight>()),
+        Make::Turning => run(rt, first, second.fitted::<Turning>()),
     }
 }
 
-// Where the options of the second stick begin.
-fn divider(words: &[String]) -> usize
-    ensures { result ≤ length words.now }
-{
-    for (i, word) in words.iter().enumerate() {
-        if word.as_str() == "--" {
-            return i;
-        }
-    }
-    words.len()
-}
-
-// The two sticks by their options: without a divider both have the same.
+// The two sticks by their options: behind a divider the second's, and without one both have the same.
 fn chosen_fits(rt: &HostRuntime, words: &[String]) -> anyhow::Result<(Fit, Fit)> {
-    let at = divider(words);
-    let first = chosen_fit(rt, &words[0..at])?;
-    let second = if at < words.len() {
-        chosen_fit(rt, &words[at + 1..])?
-    } else {
-        chosen_fit(rt, words)?
+    let divider = words.iter().position(|word| word.as_str() == "--");
+    let (first, second) = match divider {
+        Some(at) => (&words[..at], &words[at + 1..]),
+        None => (words, words),
     };
-    Ok((first, second))
+    Ok((
+        chosen_fit(rt, USAGE, first)?,
+        chosen_fit(rt, USAGE, second)?,
+    ))
 }
 
 // The sticks and scripts that the command line says, side by side.
 fn run_twins(rt: &HostRuntime) -> anyhow::Result<()> {
-    let heap = rt.alloc();
-    let words: Vec<String> = env::args(rt)?.skip(1).collect(heap)?;
+    let words: Vec<String> = env::args(rt)?.skip(1).collect(rt.alloc())?;
     let [first, second, common, rest @ ..] = words.as_slice() else {
         eprintln!(rt; "{USAGE}")?;
         return Err(anyhow!("a command line that is none of twins'"));
@@ -275,35 +202,22 @@ fn run_twins(rt: &HostRuntime) -> anyhow::Result<()> {
     let memory = inspected_memory(rt, &first_fit)?;
     let setup = read_script(rt, first.as_str())?;
     let second_setup = read_script(rt, second.as_str())?;
-    let script = read_script(rt, common.as_str())?;
-    let second_script = read_script(rt, common.as_str())?;
-    let Fit {
-        layout,
-        make,
-        blocks: _,
-        runs,
-    } = first_fit;
-    match make {
-        Make::Straight => {
-            let medium = straight::fit(memory, runs);
-            let side = Side {
-                medium,
-                layout,
-                setup,
-                common: script,
-            };
-            run_second(rt, side, second_fit, second_setup, second_script)
-        }
-        Make::Turning => {
-            let medium = turning::fit(memory, runs);
-            let side = Side {
-                medium,
-                layout,
-                setup,
-                common: script,
-            };
-            run_second(rt, side, second_fit, second_setup, second_script)
-        }
+    let first = Inspected {
+        fit: first_fit,
+        memory,
+        setup,
+        common: read_script(rt, common.as_str())?,
+    };
+    let second_common = read_script(rt, common.as_str())?;
+    let second = Inspected {
+        memory: inspected_memory(rt, &second_fit)?,
+        fit: second_fit,
+        setup: second_setup,
+        common: second_common,
+    };
+    match first.fit.make {
+        Make::Straight => run_second(rt, first.fitted::<Straight>(), second),
+        Make::Turning => run_second(rt, first.fitted::<Turning>(), second),
     }
 }
 

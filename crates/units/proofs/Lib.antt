@@ -1,4 +1,4 @@
 pub mod Loops
 pub mod Compared
-pub mod Stored
+pub mod Fronts
 pub mod Tables

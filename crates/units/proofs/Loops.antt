@@ -1,9 +1,8 @@
 -- Loops over rows.
-use Rattle.std.proofs.Common.{◌≡◌, ℕ, zero, suc, ◌+◌, ◌<◌, ◌≤◌, Bool, cond, ◌&&◌, ◌||◌, List, [], ◌∷◌, ◌++◌, map, length, get_or, take, drop, set, sym, refl, ap, ◌∙◌, subst, arith}
-use Rattle.std.proofs.lemmas.List.{map-set, get_or-map, length-map, length-set, append-nil, take_all, drop_all, at_drop_more}
+use Rattle.std.proofs.Common.{◌≡◌, ℕ, zero, suc, ◌+◌, ◌<◌, ◌&&◌, List, [], ◌∷◌, ◌++◌, map, length, get_or, take, drop, set, sym, refl, ap, ◌∙◌, subst, arith}
+use Rattle.std.proofs.lemmas.List.{map-set, get_or-map, length-map, length-set}
 use Rattle.std.proofs.lemmas.List.Edits.{map_over_more}
-use Rattle.model.specs.Recovery.{is_recovering, first_recovering}
-use Rattle.model.specs.Units.{Standing, UnitRecord, any_standing}
+use Rattle.model.specs.Units.{UnitRecord}
 use Rattle.units.specs.declared.row.Row.{Row}
 use Rattle.units.specs.Records.{record_of, sound_row, sound_rows}
 
@@ -19,9 +18,6 @@ pub record Far (f : UnitRecord → UnitRecord) (rows₀ rows : List Row) (i : �
   pub sound : sound_rows rows ≡ sound_rows rows₀
   pub count : length rows ≡ length rows₀
 
-pub far_none : (f : UnitRecord → UnitRecord) (rows : List Row) → Far f rows rows 0
-far_none f rows = record { records = refl; sound = refl; count = refl }
-
 pub far_more : (f : UnitRecord → UnitRecord) (rows₀ rows : List Row) (i : ℕ) (d r : Row) → i < length rows → record_of r ≡ f (record_of (get_or rows i d)) → sound_row r ≡ sound_row (get_or rows i d)
     → Far f rows₀ rows i → Far f rows₀ (set rows i r) (i + 1)
 far_more f rows₀ rows i d r h er es far =
@@ -33,18 +29,3 @@ far_more f rows₀ rows i d r h er es far =
       sound = sound_kept rows i d r h es ∙ far.sound;
       count = length-set rows i r ∙ far.count;
     }
-
-pub far_all : (f : UnitRecord → UnitRecord) (rows₀ rows : List Row) (i : ℕ) → length rows₀ ≤ i → Far f rows₀ rows i → map record_of rows ≡ map f (map record_of rows₀)
-far_all f rows₀ rows i h far =
-    let us₀ = map record_of rows₀ in
-    let le : length us₀ ≤ i = rw length-map h in
-    far.records ∙ ap (λ x. map f x ++ drop i us₀) (take_all i us₀ le) ∙ ap (λ x. map f us₀ ++ x) (drop_all i us₀ le) ∙ append-nil (map f us₀)
-
-pub any_step : (test : Standing → Bool) (rows : List Row) (i : ℕ) (d : Row) (t : Bool) → i < length rows → t ≡ test (record_of (get_or rows i d)).standing
-    → any_standing test (map record_of (drop i rows)) ≡ (t || any_standing test (map record_of (drop (i + 1) rows)))
-any_step test rows i d t h e = at_drop_more (λ rs. any_standing test (map record_of rs)) rows i d h ∙ ap (λ x. x || any_standing test (map record_of (drop (i + 1) rows))) (sym e)
-
-pub first_step : (rows : List Row) (i : ℕ) (d : Row) (t : Bool) → i < length rows → t ≡ is_recovering (record_of (get_or rows i d)).standing
-    → first_recovering (map record_of (drop i rows)) ≡ cond t 0 (suc (first_recovering (map record_of (drop (i + 1) rows))))
-first_step rows i d t h e =
-    at_drop_more (λ rs. first_recovering (map record_of rs)) rows i d h ∙ ap (λ x. cond x 0 (suc (first_recovering (map record_of (drop (i + 1) rows))))) (sym e)

@@ -1,23 +1,34 @@
-// Comparison of a candidate with a stored passphrase.
+// Comparison of a candidate with what is stored.
 // No branch depends on a stored byte: what time a refused candidate takes says nothing of what is stored.
-ghost use Rattle.std.specs.Prelude.{◌≡◌, ◌≤◌, length, take};
+ghost use Rattle.std.specs.Prelude.{◌≡◌, ℕ, ◌≤◌, true, bit_or, bit_xor};
+ghost use Rattle.std.specs.List.{fold, zip};
 ghost use Rattle.std.specs.Str.{bytes_eq};
+ghost use Rattle.units.specs.Kept.{stored, tidy};
 
-use crate::row::PHRASE_BYTES;
+use crate::stored::Stored;
 
-// Whether the first `stored_len` bytes of `stored` are the candidate. Every byte of the candidate is compared, whatever came before, and
-// the lengths are compared in the same sum of differences.
-pub(crate) fn is_same(stored: &[u8; 50], stored_len: u8, candidate: &[u8]) -> bool
-    requires { (length stored.now ≡ 50) × (stored_len ≤ 50) }
-    ensures { result ≡ bytes_eq (take stored_len stored.now) candidate.now }
+// The differences of two texts as far as both go, gathered into those that there were.
+fn differences(before: u8, one: &[u8], other: &[u8]) -> u8
+    ensures { result ≡ fold (λ (d : ℕ) (p : ℕ × ℕ). bit_or d (bit_xor p.0 p.1)) before (zip one.now other.now) }
 {
-    let len = candidate.len();
-    if len > PHRASE_BYTES {
-        return false;
+    one.iter()
+        .zip(other)
+        .fold(before, |sum, (byte, other)| sum | byte ^ other)
+}
+
+impl<const N: usize> Stored<N> {
+    // Whether the candidate is what is stored. Every byte of the candidate is compared, whatever came before, and the lengths are
+    // compared in the same sum of differences.
+    pub(crate) fn is_same(&self, candidate: &[u8]) -> bool
+        requires small { N ≤ 255 }
+        requires tidy { tidy self.now ≡ true }
+        ensures { result ≡ bytes_eq (stored self.now) candidate.now }
+    {
+        let len = candidate.len();
+        if len > N {
+            return false;
+        }
+        let lengths = self.len ^ len as u8;
+        differences(lengths, candidate, &self.bytes) == 0
     }
-    let mut difference = stored_len ^ len as u8;
-    for (i, byte) in candidate.iter().enumerate() {
-        difference |= stored[i] ^ *byte;
-    }
-    difference == 0
 }

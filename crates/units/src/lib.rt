@@ -4,9 +4,10 @@
 
 mod compare;
 mod puts;
-pub mod recovery;
+mod recovery;
 pub mod row;
 pub mod rows;
-pub mod sense;
-pub mod table;
-pub mod tell;
+mod sense;
+pub mod stored;
+mod table;
+mod tell;

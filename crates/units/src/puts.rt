@@ -1,38 +1,29 @@
 // What a Put does to one row: the transition matches the row's own state and the Put together, in place.
 // Everything is weighed before anything is stored, and what is erased is zeros.
-ghost use Rattle.std.specs.Prelude.{◌≡◌, ◌≤◌, Bool, true, cond, ◌&&◌, [], length, take, Ok, Err, nat_lt};
+ghost use Rattle.std.specs.Prelude.{◌≡◌, true, false, ◌&&◌, [], nat_lt, OnOk, OnErr};
 ghost use Rattle.std.specs.Str.{bytes_eq};
 ghost use Rattle.parts.specs.Carries.{fits_record, put_of};
+ghost use Rattle.parts.specs.Secrets.{HasRoom};
 ghost use Rattle.answers.specs.Standings.{standing_by};
 ghost use Rattle.model.specs.Puts.{refused, missed, done, kept, turned};
 ghost use Rattle.model.specs.Units.{impersonal, unlocked, unit_record};
-ghost use Rattle.units.specs.Records.{record_of, sound_row, turn_of, tidy, vacant};
+ghost use Rattle.units.specs.Kept.{stored};
+ghost use Rattle.units.specs.Records.{record_of, sound_row, turn_of, vacant};
 
-use crate::compare::is_same;
-use crate::row::{HINT_BYTES, PHRASE_BYTES, Row};
+use crate::row::Row;
+use model::limits::{HINT_BYTES, PHRASE_BYTES};
 use model::lock::LockState;
 use model::refusal::Refusal;
 use model::request::Put;
-use parts::put::UnitPut;
+use parts::put::{NewSecret, UnitPut};
 
 const MOST_MISSES: u8 = 10;
 
-// Whether a passphrase and a hint have room in a row.
-fn do_fit(phrase: &[u8], hint: &[u8]) -> bool
-    ensures { result ≡ fits_record phrase.now hint.now }
+// Whether a row has room for a passphrase and its hint.
+fn has_room(secret: NewSecret<'_>) -> bool
+    ensures { result ≡ fits_record secret.entry.phrase.now secret.entry.hint.now }
 {
-    phrase.len() <= PHRASE_BYTES && hint.len() <= HINT_BYTES
-}
-
-// Stores bytes at the front of an array, with zeros behind them, so that nothing is left of what was there.
-fn store(array: &mut [u8], bytes: &[u8])
-    requires { length bytes.now ≤ length array.old }
-    ensures front { take (length bytes.now) array.new ≡ bytes.now }
-    ensures tidy { tidy (length array.old) (length bytes.now) array.new ≡ true }
-{
-    let n = bytes.len();
-    array.fill(0);
-    array[0..n].copy_from_slice(bytes);
+    secret.phrase.len() <= PHRASE_BYTES && secret.hint.len() <= HINT_BYTES
 }
 
 impl Row {
@@ -61,16 +52,29 @@ impl Row {
     // Whether a candidate equals the stored passphrase, with under ten misses. Both are looked at in any case.
     fn is_correct(&self, candidate: &[u8]) -> bool
         requires { sound_row self.now ≡ true }
-        ensures { result ≡ (bytes_eq (take self.now.phrase_len self.now.phrase) candidate.now && nat_lt self.now.misses 10) }
+        ensures { result ≡ (bytes_eq (stored self.now.phrase) candidate.now && nat_lt self.now.misses 10) }
     {
-        let same = is_same(&self.phrase, self.phrase_len, candidate);
+        let same = self.phrase.is_same(candidate);
         same & (self.misses < MOST_MISSES)
+    }
+
+    // A correct candidate changes nothing yet; an incorrect one is a miss.
+    fn admit(&mut self, candidate: &[u8]) -> Result<(), Refusal>
+        requires { sound_row self.old ≡ true }
+        ensures ok { OnOk result ((self.new ≡ self.old) × ((bytes_eq (stored self.old.phrase) candidate.now && nat_lt self.old.misses 10) ≡ true)) }
+        ensures err { OnErr result (((bytes_eq (stored self.old.phrase) candidate.now && nat_lt self.old.misses 10) ≡ false) × (turn_of result self.new ≡ missed (record_of self.old)) × (sound_row self.new ≡ true)) }
+    {
+        if self.is_correct(candidate) {
+            Ok(())
+        } else {
+            self.miss()
+        }
     }
 
     // Accepted, with another state; the record stays.
     fn accept(&mut self, state: LockState) -> Result<(), Refusal>
-        requires { vacant state self.old.phrase_len self.old.hint_len ≡ true }
-        ensures turn { turn_of result self.new ≡ kept (standing_by state (take self.old.phrase_len self.old.phrase)) (record_of self.old) }
+        requires { vacant state self.old.phrase.len self.old.hint.len ≡ true }
+        ensures turn { turn_of result self.new ≡ kept (standing_by state (stored self.old.phrase)) (record_of self.old) }
         ensures sound { sound_row self.old ≡ true → sound_row self.new ≡ true }
     {
         self.state = state;
@@ -80,7 +84,7 @@ impl Row {
 
     // Accepted with a correct candidate: the misses are cleared too.
     fn open(&mut self) -> Result<(), Refusal>
-        ensures turn { turn_of result self.new ≡ done (unlocked (take self.old.phrase_len self.old.phrase)) (record_of self.old).hint (record_of self.old) }
+        ensures turn { turn_of result self.new ≡ done (unlocked (stored self.old.phrase)) (record_of self.old).hint (record_of self.old) }
         ensures sound { sound_row self.old ≡ true → sound_row self.new ≡ true }
     {
         self.state = LockState::Unlocked;
@@ -90,15 +94,13 @@ impl Row {
     }
 
     // Keeps a new passphrase and hint, with zeros behind them, and no misses.
-    fn keep(&mut self, phrase: &[u8], hint: &[u8]) -> Result<(), Refusal>
-        requires { (length phrase.now ≤ 50) × (length hint.now ≤ 100) }
-        ensures turn { turn_of result self.new ≡ done (unlocked phrase.now) hint.now (record_of self.old) }
+    fn keep(&mut self, secret: NewSecret<'_>) -> Result<(), Refusal>
+        requires { HasRoom secret }
+        ensures turn { turn_of result self.new ≡ done (unlocked secret.entry.phrase.now) secret.entry.hint.now (record_of self.old) }
         ensures sound { sound_row self.old ≡ true → sound_row self.new ≡ true }
     {
-        store(&mut self.phrase, phrase);
-        self.phrase_len = phrase.len() as u8;
-        store(&mut self.hint, hint);
-        self.hint_len = hint.len() as u8;
+        self.phrase.set(secret.phrase);
+        self.hint.set(secret.hint);
         self.misses = 0;
         self.state = LockState::Unlocked;
         self.accepted = true;
@@ -110,10 +112,8 @@ impl Row {
         ensures wiped { record_of self.new ≡ unit_record impersonal [] 0 true self.old.sense }
         ensures sound { sound_row self.old ≡ true → sound_row self.new ≡ true }
     {
-        store(&mut self.phrase, &[]);
-        self.phrase_len = 0;
-        store(&mut self.hint, &[]);
-        self.hint_len = 0;
+        self.phrase.set(&[]);
+        self.hint.set(&[]);
         self.misses = 0;
         self.state = LockState::Impersonal;
         self.accepted = true;
@@ -135,70 +135,43 @@ impl Row {
         ensures sound { sound_row self.new ≡ true }
     {
         match (self.state, put) {
-            (_, UnitPut::Misfit) => self.refuse(Refusal::WrongLength),
             (
                 _,
-                UnitPut::Malformed {
-                    put: Put::EraseForgottenPassphrase
-                    | Put::LockAgain
-                    | Put::ChangeInterfaceAccess,
-                },
+                UnitPut::Misfit
+                | UnitPut::Malformed(
+                    Put::EraseForgottenPassphrase | Put::LockAgain | Put::ChangeInterfaceAccess,
+                ),
             ) => self.refuse(Refusal::WrongLength),
             (LockState::Recovering { .. }, _) => Err(Refusal::Recovering),
-            (LockState::Impersonal, UnitPut::Store { phrase, hint }) if do_fit(phrase, hint) =>
-                self.keep(phrase, hint),
-            (
-                LockState::Impersonal,
-                UnitPut::Store { .. }
-                | UnitPut::Malformed {
-                    put: Put::StorePassphrase,
-                },
-            ) => self.refuse(Refusal::Malformed),
+            (LockState::Impersonal, UnitPut::Store(secret)) if has_room(secret) => self.keep(
+                secret,
+            ),
+            (LockState::Impersonal, UnitPut::Store(_) | UnitPut::Malformed(Put::StorePassphrase)) =>
+                self.refuse(Refusal::Malformed),
             (LockState::Impersonal, _) => self.refuse(Refusal::WrongState),
             (LockState::Locked, UnitPut::Match { candidate }) => {
-                if self.is_correct(candidate) {
-                    self.open()
-                } else {
-                    self.miss()
-                }
+                self.admit(candidate)?;
+                self.open()
             }
-            (
-                LockState::Locked,
-                UnitPut::Malformed {
-                    put: Put::MatchPassphrase,
-                },
-            ) => self.refuse(Refusal::Malformed),
+            (LockState::Locked, UnitPut::Malformed(Put::MatchPassphrase)) => self.refuse(
+                Refusal::Malformed,
+            ),
             (LockState::Locked, UnitPut::EraseForgotten) => self.accept(LockState::Recovering {
                 steps_done: 0,
             }),
             (LockState::Locked, _) => self.refuse(Refusal::WrongState),
-            (
-                LockState::Unlocked,
-                UnitPut::Change {
-                    candidate,
-                    phrase,
-                    hint,
-                },
-            ) if do_fit(phrase, hint) => {
-                if self.is_correct(candidate) {
-                    self.keep(phrase, hint)
-                } else {
-                    self.miss()
-                }
+            (LockState::Unlocked, UnitPut::Change { candidate, secret }) if has_room(secret) => {
+                self.admit(candidate)?;
+                self.keep(secret)
             }
             (LockState::Unlocked, UnitPut::Erase { candidate }) => {
-                if self.is_correct(candidate) {
-                    self.erase()
-                } else {
-                    self.miss()
-                }
+                self.admit(candidate)?;
+                self.erase()
             }
             (
                 LockState::Unlocked,
                 UnitPut::Change { .. }
-                | UnitPut::Malformed {
-                    put: Put::ChangePassphrase | Put::ErasePassphrase,
-                },
+                | UnitPut::Malformed(Put::ChangePassphrase | Put::ErasePassphrase),
             ) => self.refuse(Refusal::Malformed),
             (LockState::Unlocked, UnitPut::LockAgain) if negotiable => self.accept(
                 LockState::Locked,

@@ -1,30 +1,24 @@
 // What work steps see and make of the units that recover, and what showing the units anew clears.
 // Past the table there are only new units, and nothing is kept of them.
-ghost use Rattle.std.specs.Prelude.{◌≡◌, ◌+◌, ◌*◌, ◌<◌, true, map, length, MatchOption, nat_le, slice_index_or};
+ghost use Rattle.std.specs.Prelude.{◌≡◌, ◌+◌, ◌*◌, ◌<◌, true, map, length, take, MatchOption, nat_le, slice_index_or};
 ghost use Rattle.model.specs.Control.{alter};
 ghost use Rattle.model.specs.Presence.{presented};
 ghost use Rattle.model.specs.Recovery.{is_recovering, steps_done_of, first_recovering, advanced};
 ghost use Rattle.model.specs.Units.{new_unit};
-ghost use Rattle.units.specs.Records.{record_of, sound_row, sound_rows};
-ghost use Rattle.units.specs.Tables.{records_of};
+ghost use Rattle.units.specs.Records.{record_of, sound_row};
 
 use crate::row::Row;
 use crate::rows::Rows;
+use model::limits::STEP_BLOCKS;
 use model::lock::LockState;
 use model::sense::Sense;
 
-const MOST_UNITS: usize = 16;
-
-const BLOCKS_OF_A_STEP: u64 = 16;
-
 impl Row {
-    fn is_recovering(&self) -> bool
+    // Whether a recovery is under way.
+    pub fn is_recovering(&self) -> bool
         ensures { result ≡ is_recovering (record_of self.now).standing }
     {
-        match self.state {
-            LockState::Recovering { .. } => true,
-            LockState::Impersonal | LockState::Locked | LockState::Unlocked => false,
-        }
+        matches!(self.state, LockState::Recovering { .. })
     }
 
     // A unit that does not recover has no steps done.
@@ -45,7 +39,7 @@ impl Row {
         ensures sound { sound_row self.new ≡ true }
     {
         if let LockState::Recovering { steps_done } = self.state {
-            if u64::from(blocks) <= BLOCKS_OF_A_STEP * (u64::from(steps_done) + 1) {
+            if u64::from(blocks) <= u64::from(STEP_BLOCKS) * (u64::from(steps_done) + 1) {
                 self.wipe();
             } else {
                 self.state = LockState::Recovering {
@@ -65,52 +59,37 @@ impl Row {
     }
 }
 
-// The index of the first of these units that recovers, or none.
-pub fn first_recovering(rows: &[Row]) -> Option<usize>
-    ensures { MatchOption result (first_recovering (map record_of rows.now) ≡ length rows.now) (λ v. (v ≡ first_recovering (map record_of rows.now)) × (v < length rows.now)) }
-{
-    for (i, row) in rows.iter().enumerate() {
-        if row.is_recovering() {
-            return Some(i);
-        }
-    }
-    None
-}
-
-fn present_rows(rows: &mut [Row])
-    ensures records { map record_of rows.new ≡ map presented (map record_of rows.old) }
-    ensures sound { sound_rows rows.new ≡ sound_rows rows.old }
-{
-    for row in rows.iter_mut() {
-        row.present();
-    }
-}
-
 impl Rows {
+    // The number of the first of the units before `end` that recovers, or none.
+    pub fn first_recovering(&self, end: usize) -> Option<usize>
+        ensures { MatchOption result (first_recovering (take end self.now) ≡ length (take end self.now)) (λ v. (v ≡ first_recovering (take end self.now)) × (v < length (take end self.now))) }
+    {
+        self.rows.iter().take(end).position(Row::is_recovering)
+    }
+
     // How many work steps of its recovery the unit with this number has behind it.
     pub fn steps_done(&self, index: usize) -> u32
-        ensures { result ≡ steps_done_of (slice_index_or (records_of self.now) index new_unit).standing }
+        ensures { result ≡ steps_done_of (slice_index_or self.now index new_unit).standing }
     {
-        if index < MOST_UNITS {
-            self.rows[index].steps_done()
-        } else {
-            0
-        }
+        self.rows.get(index).map_or(0, Row::steps_done)
     }
 
     // One work step of the unit with this number, which has so many blocks; the other units stay.
     pub fn advance(&mut self, index: usize, blocks: u32)
-        ensures { records_of self.new ≡ alter index (λ u. advanced (nat_le blocks (16 * (steps_done_of u.standing + 1))) u.standing u) (records_of self.old) }
+        ensures { self.new ≡ alter index (λ u. advanced (nat_le blocks (16 * (steps_done_of u.standing + 1))) u.standing u) self.old }
     {
-        if index < MOST_UNITS {
+        // By index: of a row that a slice's get_mut lent, nothing is known afterwards.
+        if index < self.rows.len() {
             self.rows[index].advance(blocks);
         }
     }
 
     // Every unit is shown anew.
     pub fn present(&mut self)
-        ensures { records_of self.new ≡ map presented (records_of self.old) }
+        ensures { self.new ≡ map presented self.old }
     {
-        present_rows(&mut self.rows);
+        for row in &mut self.rows {
+            row.present();
+        }
     }
 }

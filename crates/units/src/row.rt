@@ -1,30 +1,19 @@
 // One unit's record: a plain row of fixed arrays.
-// Of an array only the first bytes are in use, as its length says; the others are zeros.
+// No invariant of its own: a transition changes a row field by field while it is lent, and the table bounds all rows.
 ghost use Rattle.std.specs.Prelude.{◌≡◌, true};
-ghost use Rattle.model.specs.Units.{new_unit, powered};
-ghost use Rattle.units.specs.Records.{quality_test, record_of, sound_row};
+ghost use Rattle.model.specs.Units.{new_unit, powered, holds_phrase, is_locked};
+ghost use Rattle.units.specs.Records.{record_of, sound_row};
 
+use crate::stored::Stored;
+use model::limits::{HINT_BYTES, PHRASE_BYTES};
 use model::lock::LockState;
 use model::sense::Sense;
-
-pub const PHRASE_BYTES: usize = 50;
-
-pub const HINT_BYTES: usize = 100;
-
-// How a unit may stand: holding a passphrase, or Locked.
-#[derive(Clone, Copy)]
-pub enum Quality {
-    Personal,
-    Locked,
-}
 
 #[derive(Clone, Copy)]
 pub struct Row {
     pub state: LockState,
-    pub phrase: [u8; 50],
-    pub phrase_len: u8,
-    pub hint: [u8; 100],
-    pub hint_len: u8,
+    pub phrase: Stored<PHRASE_BYTES>,
+    pub hint: Stored<HINT_BYTES>,
     pub misses: u8,
     // whether the last Put to the unit was accepted
     pub accepted: bool,
@@ -39,10 +28,8 @@ impl Row {
     {
         Row {
             state: LockState::Impersonal,
-            phrase: [0; PHRASE_BYTES],
-            phrase_len: 0,
-            hint: [0; HINT_BYTES],
-            hint_len: 0,
+            phrase: Stored::new(),
+            hint: Stored::new(),
             misses: 0,
             accepted: false,
             sense: Sense::None,
@@ -61,15 +48,26 @@ impl Row {
         self.sense = Sense::None;
     }
 
-    // Whether the unit stands so.
-    pub fn is(&self, quality: Quality) -> bool
-        ensures { result ≡ quality_test quality (record_of self.now).standing }
+    // Whether the unit holds a passphrase.
+    pub fn is_personal(&self) -> bool
+        ensures { result ≡ holds_phrase (record_of self.now).standing }
     {
-        match (quality, self.state) {
-            (Quality::Personal, LockState::Impersonal) => false,
-            (Quality::Personal, _) => true,
-            (Quality::Locked, LockState::Locked | LockState::Recovering { .. }) => true,
-            (Quality::Locked, _) => false,
-        }
+        !matches!(self.state, LockState::Impersonal)
+    }
+
+    // Whether the unit is Locked, as one that recovers is.
+    pub fn is_locked(&self) -> bool
+        ensures { result ≡ is_locked (record_of self.now).standing }
+    {
+        matches!(self.state, LockState::Locked | LockState::Recovering { .. })
+    }
+}
+
+impl Default for Row {
+    ghost is_default = { λ r. (record_of r ≡ new_unit) × (sound_row r ≡ true) };
+
+    // A new unit.
+    fn default() -> Row {
+        Row::new()
     }
 }

@@ -1,13 +1,22 @@
 // The table of sixteen rows, with what holds of all of them as its invariant.
-// In a file of its own, so that definitions may name it.
-ghost use Rattle.std.specs.Prelude.{◌≡◌, true, length};
-ghost use Rattle.units.specs.Records.{sound_rows};
-
+// Callers see it as the list of the units' records. In a file of its own, so that definitions may name it.
 use crate::row::Row;
+use model::limits::MOST_UNITS;
+use std::marker::Model;
 
-#[derive(Clone, Copy)]
+#[derive(Drop)]
 pub struct Rows {
-    pub rows: [Row; 16],
-    ghost full: { length rows ≡ 16 },
-    ghost sound: { sound_rows rows ≡ true },
+    pub rows: [Row; MOST_UNITS],
+}
+
+impl Model for Rows {
+    ghost use Rattle.std.specs.Prelude.{◌≡◌, List, map, length, true};
+    ghost use Rattle.model.specs.Units.{UnitRecord};
+    ghost use Rattle.units.specs.Records.{record_of, sound_rows};
+
+    ghost Value = { List UnitRecord };
+
+    ghost view = { λ t. map record_of t.rows };
+
+    ghost invariant = { λ t. (length t.rows ≡ 16) × (sound_rows t.rows ≡ true) };
 }

@@ -1,77 +1,88 @@
-// Calls that go over all rows.
-// The loops go over slices, which know their length.
-ghost use Rattle.std.specs.Prelude.{◌≡◌, map, replicate, if◌then◌else◌, nat_lt, slice_index_or};
+// Calls that reach all rows, or one by its number.
+// Past the table there is no unit.
+ghost use Rattle.std.specs.Prelude.{◌≡◌, Bool, map, replicate, if◌then◌else◌, nat_lt, slice_index_or, slice_range};
+ghost use Rattle.std.specs.Fn.{FnReturnsAt};
 ghost use Rattle.parts.specs.Carries.{put_of};
 ghost use Rattle.model.specs.Control.{alter};
 ghost use Rattle.model.specs.Puts.{turned};
-ghost use Rattle.model.specs.Refusals.{refusal_number};
+ghost use Rattle.model.specs.Refusals.{number_of, refusal_number};
 ghost use Rattle.model.specs.declared.refusal.Refusal.TheVariants.{Absent};
-ghost use Rattle.model.specs.Units.{new_unit, powered, any_standing};
-ghost use Rattle.units.specs.Records.{quality_test, record_of, result_code, sound_rows};
-ghost use Rattle.units.specs.Tables.{records_of};
+ghost use Rattle.model.specs.Units.{Standing, new_unit, powered, any_standing, any_phrase, any_locked};
+ghost use Rattle.units.specs.Records.{record_of};
+ghost use Rattle.units.specs.declared.row.Row.{Row};
 
-use crate::row::{Quality, Row};
+use crate::row::Row;
 use crate::rows::Rows;
+use model::limits::MOST_UNITS;
 use model::refusal::Refusal;
 use parts::put::UnitPut;
-
-const MOST_UNITS: usize = 16;
+use std::ops::Range;
 
 impl Rows {
     // Sixteen new units.
     pub fn new() -> Rows
-        ensures { records_of result ≡ replicate 16 new_unit }
+        ensures { result ≡ replicate 16 new_unit }
     {
         Rows {
-            rows: [Row::new(); 16],
+            rows: [Row::new(); MOST_UNITS],
         }
     }
-}
 
-fn power_up_rows(rows: &mut [Row])
-    ensures records { map record_of rows.new ≡ map powered (map record_of rows.old) }
-    ensures sound { sound_rows rows.new ≡ sound_rows rows.old }
-{
-    for row in rows.iter_mut() {
-        row.power_up();
-    }
-}
-
-impl Rows {
-    // Power-up of every unit.
+    // Power-up of every unit. A loop of its own, as `present` has: one over a closure would be longer than both.
     pub fn power_up(&mut self)
-        ensures { records_of self.new ≡ map powered (records_of self.old) }
+        ensures { self.new ≡ map powered self.old }
     {
-        power_up_rows(&mut self.rows);
-    }
-}
-
-// Whether one of these units stands so.
-pub fn is_any(rows: &[Row], quality: Quality) -> bool
-    ensures { result ≡ any_standing (quality_test quality) (map record_of rows.now) }
-{
-    for row in rows {
-        if row.is(quality) {
-            return true;
+        for row in &mut self.rows {
+            row.power_up();
         }
     }
-    false
-}
 
-impl Rows {
-    // A Put to the unit with this number; the other rows stay. There is no unit past the table.
+    // Whether the test holds of one of these units: a test that tells, of each row, something of how its unit stands.
+    fn is_any<F: Fn(&Row) -> bool>(&self, units: Range<usize>, test: F) -> bool
+        requires { F.IsAlwaysCallable test }
+        ensures { (told : Standing → Bool) → ((r : Row) (b : Bool) → FnReturnsAt F.Fn test r b → b ≡ told (record_of r).standing) → result ≡ any_standing told (slice_range self.now units.start units.end) }
+    {
+        self.rows.iter().take(units.end).skip(units.start).any(test)
+    }
+
+    // Whether one of these units holds a passphrase.
+    pub fn is_any_personal(&self, units: Range<usize>) -> bool
+        ensures { result ≡ any_phrase (slice_range self.now units.start units.end) }
+    {
+        self.is_any(units, Row::is_personal)
+    }
+
+    // Whether one of them is Locked.
+    pub fn is_any_locked(&self, units: Range<usize>) -> bool
+        ensures { result ≡ any_locked (slice_range self.now units.start units.end) }
+    {
+        self.is_any(units, Row::is_locked)
+    }
+
+    // A Put to the unit with this number; the other rows stay.
     pub fn put_to(
         &mut self,
         index: usize,
         put: UnitPut<'_>,
         negotiable: bool,
     ) -> Result<(), Refusal>
-        ensures code { result_code result ≡ (if nat_lt index 16 then (turned negotiable (put_of put.entry) (slice_index_or (records_of self.old) index new_unit)).code else refusal_number Absent) }
-        ensures after { records_of self.new ≡ alter index (λ u. (turned negotiable (put_of put.entry) u).after) (records_of self.old) }
+        ensures code { number_of result ≡ (if nat_lt index 16 then (turned negotiable (put_of put.entry) (slice_index_or self.old index new_unit)).code else refusal_number Absent) }
+        ensures after { self.new ≡ alter index (λ u. (turned negotiable (put_of put.entry) u).after) self.old }
     {
-        if index >= MOST_UNITS {
-            return Err(Refusal::Absent);
+        // By index: of a row that a slice's get_mut lent, nothing is known afterwards.
+        if index < self.rows.len() {
+            self.rows[index].put(put, negotiable)
+        } else {
+            Err(Refusal::Absent)
         }
-        self.rows[index].put(put, negotiable)
+    }
+}
+
+impl Default for Rows {
+    ghost is_default = { λ rows. rows ≡ replicate 16 new_unit };
+
+    // Sixteen new units.
+    fn default() -> Rows {
+        Rows::new()
     }
 }

@@ -1,78 +1,48 @@
--- A text cut at marks: what stands before a place, with the pieces behind it, is the whole; and likewise runs read so far.
-use Rattle.std.proofs.Common.{◌≡◌, ℕ, ◌+◌, ◌-◌, ◌<◌, ◌≤◌, Bool, true, false, eqb, List, [], ◌∷◌, ◌++◌, length, get_or, take, drop, is_some, Some, None, Ok, Err, Option, Result, sym, refl, ap, ◌∙◌, arith, Bor, MatchOption}
-use Rattle.std.proofs.lemmas.List.{append_assoc, append-nil, at_drop_more, at_drop_all, take_more, take_all, take_rest}
-use Rattle.std.proofs.lemmas.Bool.{eq-eqb, ne_eqb}
+-- A text cut at its first mark, and runs read so far.
+use Rattle.std.proofs.Common.{◌≡◌, ℕ, ◌+◌, ◌-◌, ◌<◌, ◌≤◌, Bool, true, false, cond, not, List, [], ◌∷◌, ◌++◌, length, get_or, take, drop, is_some, Some, None, Ok, Err, Option, Result, sym, refl, ap, ◌∙◌, arith, Bor, MatchOption}
+use Rattle.std.specs.List.{onto_first, position, position_or_len}
+use Rattle.std.specs.Prelude.{◌==◌}
+use Rattle.std.proofs.lemmas.Bool.Decides.{nat_tests}
+use Rattle.std.proofs.lemmas.List.{append_assoc, append-nil, at_drop_more, at_drop_all, take_rest}
+use Rattle.std.proofs.lemmas.List.Splits.{slice_split_first, length-slice_split}
 use Rattle.model.specs.declared.layout.BadRun.{BadRun}
-use Rattle.fields.specs.Words.{with_char}
-use Rattle.values.specs.Runs.{pieces, pair_of, pair_said, with_run, pairs_said, runs_said}
+use Rattle.values.specs.Runs.{pieces, pair_of, pair_said, with_run, pairs_said}
 use Rattle.values.specs.declared.error.Mistake.{Mistake}
+use Rattle.values.specs.declared.error.Mistake.TheVariants.{MalformedValue}
 
--- characters in front of the first piece
-abbrev pub before : List ℕ → List (List ℕ) → List (List ℕ)
-before xs [] = xs ∷ []
-before xs (w ∷ ws) = (xs ++ w) ∷ ws
+abbrev first : ℕ → List ℕ → ℕ
+first mark cs = position_or_len (λ c. c == mark) cs
 
-before_some : (w : List ℕ) (ws : List (List ℕ)) → before [] (w ∷ ws) ≡ w ∷ ws
-before_some w ws = refl
+whole_by : (mark c : ℕ) (cs : List ℕ) (b : Bool) → (c == mark) ≡ b → (length cs ≤ first mark cs → pieces mark cs ≡ cs ∷ [])
+    → length (c ∷ cs) ≤ cond (not b) (1 + first mark cs) 0 → pieces mark (c ∷ cs) ≡ (c ∷ cs) ∷ []
+whole_by mark c cs true e ih h = absurd (omega arith)
+whole_by mark c cs false e ih h = rw e (ap (onto_first c) (ih (omega arith)))
 
-before_char : (c : ℕ) (ws : List (List ℕ)) → before [] (with_char c ws) ≡ with_char c ws
-before_char c [] = refl
-before_char c (w ∷ ws) = refl
+-- where no mark stands, the text is the one piece
+whole : (mark : ℕ) (cs : List ℕ) → length cs ≤ first mark cs → pieces mark cs ≡ cs ∷ []
+whole mark [] h = refl
+whole mark (c ∷ cs) h = whole_by mark c cs (c == mark) refl (whole mark cs) h
 
-before_none_by : (mark c : ℕ) (cs : List ℕ) (b : Bool) → eqb c mark ≡ b → before [] (pieces mark (c ∷ cs)) ≡ pieces mark (c ∷ cs)
-before_none_by mark c cs true e = rw e refl
-before_none_by mark c cs false e = rw e (before_char c (pieces mark cs))
+pub uncut : (mark : ℕ) (cs : List ℕ) → None ≡ position (λ c. c == mark) cs → pieces mark cs ≡ cs ∷ []
+uncut mark cs e = whole mark cs (grind (arith, nat_tests))
 
-pub before_none : (mark : ℕ) (cs : List ℕ) → before [] (pieces mark cs) ≡ pieces mark cs
-before_none mark [] = refl
-before_none mark (c ∷ cs) = before_none_by mark c cs (eqb c mark) refl
-
-before_push : (xs : List ℕ) (c : ℕ) (ws : List (List ℕ)) → before (xs ++ c ∷ []) ws ≡ before xs (with_char c ws)
-before_push xs c [] = refl
-before_push xs c (w ∷ ws) = ap (λ v. v ∷ ws) (append_assoc xs (c ∷ []) w)
-
-pub before_more : (mark : ℕ) (cs : List ℕ) (i : ℕ) → i < length cs → (get_or cs i 0 ≡ mark → ⊥)
-    → before (take (i + 1) cs) (pieces mark (drop (i + 1) cs)) ≡ before (take i cs) (pieces mark (drop i cs))
-before_more mark cs i h other =
-    let rest = drop (i + 1) cs in
-    let c = get_or cs i 0 in
-    let dark : eqb c mark ≡ false = ne_eqb c mark other in
-    let one : pieces mark (c ∷ rest) ≡ with_char c (pieces mark rest) = rw dark refl in
-    ap (λ xs. before xs (pieces mark rest)) (take_more cs i 0 h)
-    ∙ before_push (take i cs) c (pieces mark rest)
-    ∙ sym (ap (before (take i cs)) (at_drop_more (pieces mark) cs i 0 h ∙ one))
-
--- at a mark
-pub before_mark : (mark : ℕ) (cs : List ℕ) (i : ℕ) → i < length cs → get_or cs i 0 ≡ mark
-    → before (take i cs) (pieces mark (drop i cs)) ≡ take i cs ∷ pieces mark (drop (i + 1) cs)
-before_mark mark cs i h here =
-    let rest = drop (i + 1) cs in
-    let c = get_or cs i 0 in
-    let lit : eqb c mark ≡ true = eq-eqb c mark here in
-    let one : pieces mark (c ∷ rest) ≡ [] ∷ pieces mark rest = rw lit refl in
-    ap (before (take i cs)) (at_drop_more (pieces mark) cs i 0 h ∙ one)
-    ∙ ap (λ xs. xs ∷ pieces mark rest) (append-nil (take i cs))
-
--- at the end
-pub before_all : (mark : ℕ) (cs : List ℕ) (i : ℕ) → length cs ≤ i → before (take i cs) (pieces mark (drop i cs)) ≡ cs ∷ []
-before_all mark cs i h =
-    ap (before (take i cs)) (at_drop_all (pieces mark) cs i h)
-    ∙ ap (λ xs. xs ∷ []) (append-nil (take i cs) ∙ take_all i cs h)
-
--- the same two parts, as a slice has them
-pub mark_parts : (mark : ℕ) (cs : List ℕ) (i : ℕ)
-    → take i cs ∷ pieces mark (drop (i + 1) cs) ≡ take (i - 0) cs ∷ pieces mark (take (length cs - (i + 1)) (drop (i + 1) cs))
-mark_parts mark cs i =
-    let z : i - 0 ≡ i = omega arith in
-    sym (ap (λ n. take n cs ∷ pieces mark (take (length cs - (i + 1)) (drop (i + 1) cs))) z ∙ ap (λ xs. take i cs ∷ pieces mark xs) (take_rest cs (i + 1)))
+-- the two parts at the first mark, as a slice has them
+pub parts : (mark : ℕ) (cs : List ℕ) (i : ℕ) → Some i ≡ position (λ c. c == mark) cs
+    → pieces mark cs ≡ take i cs ∷ pieces mark (take (length cs - (i + 1)) (drop (i + 1) cs))
+parts mark cs i e =
+    let within : first mark cs < length cs = grind (arith, nat_tests) in
+    let here : first mark cs ≡ i = grind (arith, nat_tests) in
+    slice_split_first (λ c. c == mark) cs 0 within
+    ∙ ap (λ n. take n cs ∷ pieces mark (drop (n + 1) cs)) here
+    ∙ sym (ap (λ xs. take i cs ∷ pieces mark xs) (take_rest cs (i + 1)))
 
 -- pieces are never none, so a third is one too many
-pair_three_of : (s c : List ℕ) (ws : List (List ℕ)) → before [] ws ≡ ws → pair_of (s ∷ c ∷ ws) ≡ None
-pair_three_of s c [] e = absurd (let z : ◌≡◌ {A = ℕ} 0 1 = cc in omega arith)
-pair_three_of s c (w ∷ ws) e = refl
+pair_three_of : (s c : List ℕ) (ws : List (List ℕ)) → 0 < length ws → pair_of (s ∷ c ∷ ws) ≡ None
+pair_three_of s c [] h = absurd (omega arith)
+pair_three_of s c (w ∷ ws) h = refl
 
-pub pair_three : (mark : ℕ) (s c cs : List ℕ) → pair_of (s ∷ c ∷ pieces mark cs) ≡ None
-pair_three mark s c cs = pair_three_of s c (pieces mark cs) (before_none mark cs)
+pair_three : (mark : ℕ) (s c cs : List ℕ) → pair_of (s ∷ c ∷ pieces mark cs) ≡ None
+pair_three mark s c cs = pair_three_of s c (pieces mark cs) (omega (arith, length-slice_split (λ x. x == mark) cs))
 
 -- what `cut` says
 abbrev Cuts : ℕ → List ℕ → Option (Bor (List ℕ) × Bor (List ℕ)) → Type 0
@@ -92,15 +62,33 @@ pub behind_none : (r : Result (List BadRun) Mistake) → behind [] r ≡ r
 behind_none (Ok more) = refl
 behind_none (Err m) = refl
 
-pub behind_more : (rs : List BadRun) (r : BadRun) (more : Result (List BadRun) Mistake) → behind (rs ++ r ∷ []) more ≡ behind rs (with_run (Some r) more)
+behind_more : (rs : List BadRun) (r : BadRun) (more : Result (List BadRun) Mistake) → behind (rs ++ r ∷ []) more ≡ behind rs (with_run (Some r) more)
 behind_more rs r (Ok more) = ap Ok (append_assoc rs (r ∷ []) more)
 behind_more rs r (Err m) = refl
 
-pub behind_pair : (text rest pair tail : List ℕ) (rs more : List BadRun) (r : BadRun) → pieces 0x2C rest ≡ pair ∷ pieces 0x2C tail → Some r ≡ pair_said pair
-    → more ≡ rs ++ r ∷ [] → behind rs (runs_said rest) ≡ runs_said text → behind more (runs_said tail) ≡ runs_said text
-behind_pair text rest pair tail rs more r parted said grown inv =
-    ap (λ x. behind x (runs_said tail)) grown
-    ∙ behind_more rs r (runs_said tail)
-    ∙ ap (λ x. behind rs (with_run x (runs_said tail))) said
-    ∙ sym (ap (λ ws. behind rs (pairs_said ws)) parted)
+-- the piece at n said a run, or none
+abbrev At : List (List ℕ) → ℕ → List ℕ → Type 0
+At ps n piece = (n < length ps) × (piece ≡ get_or ps n piece)
+
+pub behind_pair : (ps : List (List ℕ)) (n : ℕ) (pair : List ℕ) (rs more : List BadRun) (r : BadRun) (due : Result (List BadRun) Mistake)
+    → At ps n pair → Some r ≡ pair_said pair → more ≡ rs ++ r ∷ [] → behind rs (pairs_said (drop n ps)) ≡ due → behind more (pairs_said (drop (n + 1) ps)) ≡ due
+behind_pair ps n pair rs more r due at said grown inv =
+    let rest = pairs_said (drop (n + 1) ps) in
+    ap (λ x. behind x rest) grown
+    ∙ behind_more rs r rest
+    ∙ ap (λ x. behind rs (with_run x rest)) (said ∙ ap pair_said at.1)
+    ∙ sym (ap (behind rs) (at_drop_more pairs_said ps n pair at.0))
     ∙ inv
+
+pub behind_stop : (ps : List (List ℕ)) (n : ℕ) (pair : List ℕ) (rs : List BadRun) (due : Result (List BadRun) Mistake)
+    → At ps n pair → None ≡ pair_said pair → behind rs (pairs_said (drop n ps)) ≡ due → Err MalformedValue ≡ due
+behind_stop ps n pair rs due at said inv =
+    let rest = pairs_said (drop (n + 1) ps) in
+    ap (λ x. behind rs (with_run x rest)) (said ∙ ap pair_said at.1)
+    ∙ sym (ap (behind rs) (at_drop_more pairs_said ps n pair at.0))
+    ∙ inv
+
+pub behind_all : (ps : List (List ℕ)) (n : ℕ) (rs : List BadRun) (due : Result (List BadRun) Mistake)
+    → n ≡ length ps → behind rs (pairs_said (drop n ps)) ≡ due → Ok rs ≡ due
+behind_all ps n rs due end inv =
+    sym (ap (behind rs) (at_drop_all pairs_said ps n (omega arith)) ∙ ap Ok (append-nil rs)) ∙ inv

@@ -1,15 +1,14 @@
 -- Bad runs as text: START:LENGTH,START:LENGTH in decimal, at least one.
-use Rattle.std.specs.Prelude.{ℕ, cond, List, [], ◌∷◌, Some, None, Ok, Err, Option, Result, ◌==◌}
+use Rattle.std.specs.Prelude.{ℕ, List, [], ◌∷◌, Some, None, Ok, Err, Option, Result, ◌==◌}
+use Rattle.std.specs.List.{slice_split}
 use Rattle.model.specs.declared.layout.BadRun.{BadRun}
-use Rattle.fields.specs.Words.{with_char}
 use Rattle.values.specs.Decimals.{decimal_said}
 use Rattle.values.specs.declared.error.Mistake.{Mistake}
 use Rattle.values.specs.declared.error.Mistake.TheVariants.{MalformedValue}
 
 -- what stands before, between and behind the marks
 abbrev pub pieces : ℕ → List ℕ → List (List ℕ)
-pieces mark [] = [] ∷ []
-pieces mark (c ∷ cs) = cond (c == mark) ([] ∷ pieces mark cs) (with_char c (pieces mark cs))
+pieces mark cs = slice_split (λ c. c == mark) cs
 
 abbrev pub bad_run : ℕ → ℕ → BadRun
 bad_run start count = record { start = start; count = count }

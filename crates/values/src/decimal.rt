@@ -3,20 +3,17 @@
 ghost use Rattle.std.specs.Prelude.{◌≡◌, ◌+◌, ◌*◌};
 ghost use Rattle.values.specs.Decimals.{capped, digit_said, decimal_said};
 
-fn digit(c: u8) -> Option<u8>
+fn digit(c: u8) -> Option<u32>
     ensures { result ≡ digit_said c }
 {
-    match c {
-        b'0'..=b'9' => Some(c - b'0'),
-        _ => None,
-    }
+    char::from(c).to_digit(10)
 }
 
 // One digit more behind a number.
-fn with_digit(number: u32, digit: u8) -> u32
+fn with_digit(number: u32, digit: u32) -> u32
     ensures { result ≡ capped (10 * number + digit) }
 {
-    number.saturating_mul(10).saturating_add(u32::from(digit))
+    number.saturating_mul(10).saturating_add(digit)
 }
 
 // The number that decimal digits say; none where there is no digit, or another character.

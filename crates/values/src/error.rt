@@ -6,9 +6,10 @@ ghost use Rattle.values.specs.declared.error.Mistake.TheVariants.{OutOfMemory};
 
 use fields::error::LineError;
 use std::alloc::{AllocError, AllocFailed};
+use std::error::Error;
 use std::fmt;
 
-#[derive(Clone, Copy, Debug)]
+#[derive(Clone, Copy, PartialEq, Eq, Debug)]
 pub enum Mistake {
     // an argument that is no option
     UnknownOption,
@@ -22,27 +23,22 @@ pub enum Mistake {
     OutOfMemory,
 }
 
-impl Mistake {
-    fn message(self) -> &'static str
-        ensures { result.now ≡ message_text self }
-    {
-        match self {
+// Written by hand, as `From` below: a derive states neither the text nor which mistake a `?` makes, and contracts name both.
+impl fmt::Display for Mistake {
+    ghost output = { λ m. Some (message_text m) };
+
+    fn fmt<W: fmt::Write>(&self, f: &mut fmt::Formatter<W>) -> fmt::Result {
+        f.write_str(match self {
             Mistake::UnknownOption => "unknown option",
             Mistake::MissingValue => "an option has no value",
             Mistake::RepeatedOption => "an option is given twice",
             Mistake::MalformedValue => "a value is not of its option's form",
             Mistake::OutOfMemory => "there is no memory for the options",
-        }
+        })
     }
 }
 
-impl fmt::Display for Mistake {
-    ghost output = { λ m. Some (message_text m) };
-
-    fn fmt<W: fmt::Write>(&self, f: &mut fmt::Formatter<W>) -> fmt::Result {
-        f.write_str(self.message())
-    }
-}
+impl Error for Mistake {}
 
 impl From<LineError> for Mistake {
     ghost from_gives = { λ e r. r ≡ mistake_of e };

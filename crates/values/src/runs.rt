@@ -1,32 +1,32 @@
 // Bad runs: pairs of a start and a length, with commas between them.
-ghost use Rattle.std.specs.Prelude.{◌≡◌, ◌<◌, [], ◌∷◌, length, IfSome, vec_items, MatchOption};
+ghost use Rattle.std.specs.Prelude.{◌≡◌, [], ◌∷◌, vec_items, MatchOption};
 ghost use Rattle.values.specs.Mistakes.{Reads};
 ghost use Rattle.values.specs.Runs.{pieces, pair_said, runs_said};
 
 use crate::decimal::read_decimal;
 use crate::error::Mistake;
+use fields::words::first_at;
 use model::layout::BadRun;
 use std::alloc::Global;
 
+const COLON: u8 = b':';
+
+const COMMA: u8 = b',';
+
 // What stands before the first mark and what stands behind it, or none where there is no mark.
 fn cut(text: &[u8], mark: u8) -> Option<(&[u8], &[u8])>
-    ensures pieces { MatchOption result (pieces mark text.now ≡ text.now ∷ []) (λ p. pieces mark text.now ≡ p.0.now ∷ pieces mark p.1.now) }
-    ensures bound { IfSome result (λ p. length p.1.now < length text.now) }
+    ensures { MatchOption result (pieces mark text.now ≡ text.now ∷ []) (λ p. pieces mark text.now ≡ p.0.now ∷ pieces mark p.1.now) }
 {
-    for (i, c) in text.iter().enumerate() {
-        if *c == mark {
-            return Some((&text[0..i], &text[i + 1..]));
-        }
-    }
-    None
+    let at = first_at(text, mark)?;
+    Some((&text[..at], &text[at + 1..]))
 }
 
 // `START:LENGTH`
 fn read_pair(text: &[u8]) -> Option<BadRun>
     ensures { result ≡ pair_said text.now }
 {
-    let (start, count) = cut(text, b':')?;
-    if cut(count, b':').is_some() {
+    let (start, count) = cut(text, COLON)?;
+    if cut(count, COLON).is_some() {
         return None;
     }
     Some(BadRun {
@@ -40,17 +40,8 @@ pub fn read_runs(heap: Global, text: &[u8]) -> Result<Vec<BadRun>, Mistake>
     ensures { Reads vec_items result (runs_said text.now) }
 {
     let mut runs = Vec::new(heap);
-    let mut rest = text;
-    while let Some((pair, tail)) = cut(rest, b',') {
-        let Some(found) = read_pair(pair) else {
-            return Err(Mistake::MalformedValue);
-        };
-        runs.push(found)?;
-        rest = tail;
+    for pair in text.split(|c| *c == COMMA) {
+        runs.push(read_pair(pair).ok_or(Mistake::MalformedValue)?)?;
     }
-    let Some(found) = read_pair(rest) else {
-        return Err(Mistake::MalformedValue);
-    };
-    runs.push(found)?;
     Ok(runs)
 }

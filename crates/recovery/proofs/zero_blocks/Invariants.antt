@@ -1,6 +1,8 @@
 use Rattle.std.proofs.Common.{◌+◌}
-use Rattle.recovery.proofs.Zeroing.{Along}
+use Rattle.model.specs.Recovery.{zeroed}
+use Rattle.recovery.proofs.Zeroing.{Left}
 use Rattle.recovery.proofs.zero_blocks.Given as goal
 
-abbrev pub invariant-loop-i : goal.invariant-loop-i
-invariant-loop-i g l = Along (g.M.Medium.meaning l.initial.medium) (l.start + l.first) l.count (g.M.Medium.meaning l.medium) l.i
+abbrev pub invariant-loop-offset : goal.invariant-loop-offset
+invariant-loop-offset g l =
+    Left (zeroed (l.start + l.first) l.count (g.M.Medium.meaning l.initial.medium)) l.start l.offset (l.first + l.count) (g.M.Medium.meaning l.medium)

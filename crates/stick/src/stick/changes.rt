@@ -1,97 +1,61 @@
 // What control transfers change of a running stick: a unit's record, an interface's jam, or the identity to come.
-ghost use Rattle.std.specs.Prelude.{◌≡◌, ◌<◌};
-ghost use Rattle.layout.specs.Tables.{layout_of};
+ghost use Rattle.std.specs.Prelude.{◌≡◌, ◌<◌, length};
 ghost use Rattle.model.specs.Control.{access_sized, clear_jam, find_unit, interface_at, put as put_request, put_to_unit, sized, with_interface};
 ghost use Rattle.model.specs.Identities.{is_negotiable};
 ghost use Rattle.model.specs.Sticks.{units_of_interface};
 ghost use Rattle.model.specs.Units.{any_locked};
-ghost use Rattle.parts.specs.Carries.{put_of};
 ghost use Rattle.stick.specs.Meaning.{stick_of};
 ghost use Rattle.stick.specs.Outcomes.{done_of};
 
 use super::Running;
-use formats::access::read_access;
-use formats::setup::is_put_length;
+use super::stage::DataStage;
+use formats::access::{ACCESS_BYTES, read_access};
 use medium::Medium;
-use model::ids::{Ids, Phase};
+use model::ids::Phase;
 use model::refusal::Refusal;
-use model::request::Put;
-use parts::put::UnitPut;
-use parts::reading::read_put;
-use units::row::Quality;
-use units::table::is_any;
-
-// The length of access data.
-const ACCESS_BYTES: usize = 12;
-
-// A Put to a unit by its bytes: its length is weighed first, and only then are its parts taken.
-fn weigh(put: Put, length: u16, data: &[u8]) -> UnitPut<'_>
-    ensures { put_of result ≡ sized put length «data».now }
-{
-    if is_put_length(put, length) && length as usize == data.len() {
-        read_put(put, data)
-    } else {
-        UnitPut::Misfit
-    }
-}
-
-fn is_negotiable(ids: Ids) -> bool
-    ensures { result ≡ is_negotiable ids }
-{
-    match ids {
-        Ids::Negotiable => true,
-        Ids::ScsiBbb => false,
-    }
-}
+use model::request::{Put, UnitAddress};
 
 impl<M: Medium> Running<M> {
-    // Clears the jam of one interface.
-    pub(super) fn clear_jam(
-        &mut self,
-        interface: u8,
-        length: u16,
-        arriving: usize,
-    ) -> Result<(), Refusal>
-        ensures outcome { done_of result (stick_of M.meaning self.new) ≡ with_interface (layout_of self.old.layout) interface (stick_of M.meaning self.old) (clear_jam interface length arriving (stick_of M.meaning self.old)) }
-        ensures layout { layout_of self.new.layout ≡ layout_of self.old.layout }
+    // Clears the jam of one interface. Nothing may arrive with it.
+    pub(super) fn clear_jam(&mut self, interface: u8, stage: DataStage<'_>) -> Result<(), Refusal>
+        ensures outcome { done_of result (stick_of M.meaning self.new) ≡ with_interface self.old.layout interface (stick_of M.meaning self.old) (clear_jam interface stage.entry.length (length stage.entry.data.now) (stick_of M.meaning self.old)) }
+        ensures layout { self.new.layout ≡ self.old.layout }
     {
-        let i = interface as usize;
-        if i >= self.layout.interface_count {
+        if !self.layout.has_interface(interface) {
             return Err(Refusal::Absent);
         }
-        if length != 0 || arriving != 0 {
+        if stage.length != 0 || !stage.data.is_empty() {
             return Err(Refusal::WrongLength);
         }
-        self.interfaces.list[i].jammed = false;
+        self.interfaces.clear_jam(interface);
         Ok(())
     }
 
     // Whether a unit of an interface is Locked.
     fn is_any_locked(&self, interface: u8) -> bool
-        requires { interface < self.now.layout.interface_count }
-        ensures { result ≡ any_locked (units_of_interface (layout_of self.now.layout) interface (stick_of M.meaning self.now).units) }
+        requires { interface < length self.now.layout.counts }
+        ensures { result ≡ any_locked (units_of_interface self.now.layout interface (stick_of M.meaning self.now).units) }
     {
+        // With `is_some_and` the proof did not close: what the closure answers hides which range it was handed.
         match self.layout.unit_range(interface) {
-            Some((first, end)) => is_any(&self.units.rows[first..end], Quality::Locked),
+            Some(units) => self.units.is_any_locked(units),
             None => false,
         }
     }
 
     // Begins an interface change.
-    fn change_access(&mut self, interface: u8, length: u16, data: &[u8]) -> Result<(), Refusal>
-        ensures outcome { done_of result (stick_of M.meaning self.new) ≡ with_interface (layout_of self.old.layout) interface (stick_of M.meaning self.old) (access_sized (layout_of self.old.layout) interface length «data».now (stick_of M.meaning self.old)) }
-        ensures layout { layout_of self.new.layout ≡ layout_of self.old.layout }
+    fn change_access(&mut self, interface: u8, stage: DataStage<'_>) -> Result<(), Refusal>
+        ensures outcome { done_of result (stick_of M.meaning self.new) ≡ with_interface self.old.layout interface (stick_of M.meaning self.old) (access_sized self.old.layout interface stage.entry.length stage.entry.data.now (stick_of M.meaning self.old)) }
+        ensures layout { self.new.layout ≡ self.old.layout }
     {
-        if interface as usize >= self.layout.interface_count {
+        if !self.layout.has_interface(interface) {
             return Err(Refusal::Absent);
         }
-        if length as usize != ACCESS_BYTES || data.len() != ACCESS_BYTES {
+        if usize::from(stage.length) != ACCESS_BYTES || stage.data.len() != ACCESS_BYTES {
             return Err(Refusal::WrongLength);
         }
-        let Some(access) = read_access(data) else {
-            return Err(Refusal::Malformed);
-        };
-        if !is_negotiable(access.target) && self.is_any_locked(interface) {
+        let access = read_access(stage.data)?;
+        if !access.target.is_negotiable() && self.is_any_locked(interface) {
             return Err(Refusal::WrongState);
         }
         self.phase = Phase::Idle {
@@ -107,37 +71,30 @@ impl<M: Medium> Running<M> {
     fn put_to_unit(
         &mut self,
         put: Put,
-        interface: u8,
-        unit: u8,
-        length: u16,
-        data: &[u8],
+        address: UnitAddress,
+        stage: DataStage<'_>,
     ) -> Result<(), Refusal>
-        ensures outcome { done_of result (stick_of M.meaning self.new) ≡ put_to_unit (find_unit (layout_of self.old.layout) interface unit) (is_negotiable (interface_at interface (stick_of M.meaning self.old)).ids) (sized put length «data».now) (stick_of M.meaning self.old) }
-        ensures layout { layout_of self.new.layout ≡ layout_of self.old.layout }
+        ensures outcome { done_of result (stick_of M.meaning self.new) ≡ put_to_unit (find_unit self.old.layout address.interface address.unit) (is_negotiable (interface_at address.interface (stick_of M.meaning self.old)).ids) (sized put stage.entry.length stage.entry.data.now) (stick_of M.meaning self.old) }
+        ensures layout { self.new.layout ≡ self.old.layout }
     {
-        let Some(index) = self.layout.find_unit(interface, unit) else {
-            return Err(Refusal::Absent);
-        };
-        let negotiable = is_negotiable(self.interfaces.list[interface as usize].ids);
-        self.units
-            .put_to(index, weigh(put, length, data), negotiable)
+        let index = self.layout.find_unit(address).ok_or(Refusal::Absent)?;
+        let negotiable = self.interfaces.ids(address.interface).is_negotiable();
+        self.units.put_to(index, stage.unit_put(put), negotiable)
     }
 
     // A Put, to a unit or to an interface.
     pub(super) fn put(
         &mut self,
         put: Put,
-        interface: u8,
-        unit: u8,
-        length: u16,
-        data: &[u8],
+        address: UnitAddress,
+        stage: DataStage<'_>,
     ) -> Result<(), Refusal>
-        ensures outcome { done_of result (stick_of M.meaning self.new) ≡ put_request (layout_of self.old.layout) put interface unit length «data».now (stick_of M.meaning self.old) }
-        ensures layout { layout_of self.new.layout ≡ layout_of self.old.layout }
+        ensures outcome { done_of result (stick_of M.meaning self.new) ≡ put_request self.old.layout put address.interface address.unit stage.entry.length stage.entry.data.now (stick_of M.meaning self.old) }
+        ensures layout { self.new.layout ≡ self.old.layout }
     {
         match put {
-            Put::ChangeInterfaceAccess => self.change_access(interface, length, data),
-            _ => self.put_to_unit(put, interface, unit, length, data),
+            Put::ChangeInterfaceAccess => self.change_access(address.interface, stage),
+            _ => self.put_to_unit(put, address, stage),
         }
     }
 }

@@ -1,7 +1,6 @@
 // The clock and the bus of a running stick.
 // An interface change takes its time by clock calls: the stick idles, is gone, and then presents the target.
 ghost use Rattle.std.specs.Prelude.{◌≡◌};
-ghost use Rattle.layout.specs.Tables.{layout_of};
 ghost use Rattle.model.specs.Presence.{bus_reset, gone_on, passed, presenting};
 ghost use Rattle.stick.specs.Meaning.{stick_of};
 
@@ -13,7 +12,7 @@ impl<M: Medium> Running<M> {
     // The interface presents the target, and nothing is told any more of the time before.
     fn present(&mut self, interface: u8, target: Ids)
         ensures stick { stick_of M.meaning self.new ≡ presenting interface target (stick_of M.meaning self.old) }
-        ensures layout { layout_of self.new.layout ≡ layout_of self.old.layout }
+        ensures layout { self.new.layout ≡ self.old.layout }
     {
         self.units.present();
         self.interfaces.unjam();
@@ -24,7 +23,7 @@ impl<M: Medium> Running<M> {
     // Time passes while the stick is gone.
     fn stay_gone(&mut self, milliseconds: u32, interface: u8, target: Ids, gone_ms: u32)
         ensures stick { stick_of M.meaning self.new ≡ gone_on milliseconds interface target gone_ms (stick_of M.meaning self.old) }
-        ensures layout { layout_of self.new.layout ≡ layout_of self.old.layout }
+        ensures layout { self.new.layout ≡ self.old.layout }
     {
         if gone_ms <= milliseconds {
             self.present(interface, target);
@@ -40,7 +39,7 @@ impl<M: Medium> Running<M> {
     // A clock call: a phase ends when nothing of it is left, and what is over is lost.
     pub fn clock(&mut self, milliseconds: u32)
         ensures stick { stick_of M.meaning self.new ≡ passed milliseconds (stick_of M.meaning self.old).phase (stick_of M.meaning self.old) }
-        ensures layout { layout_of self.new.layout ≡ layout_of self.old.layout }
+        ensures layout { self.new.layout ≡ self.old.layout }
     {
         match self.phase {
             Phase::Present => {}
@@ -72,7 +71,7 @@ impl<M: Medium> Running<M> {
     // A bus reset clears every jam, and nothing else.
     pub fn bus_reset(&mut self)
         ensures stick { stick_of M.meaning self.new ≡ bus_reset (stick_of M.meaning self.old) }
-        ensures layout { layout_of self.new.layout ≡ layout_of self.old.layout }
+        ensures layout { self.new.layout ≡ self.old.layout }
     {
         self.interfaces.unjam(); // an interface change goes on
     }
@@ -80,12 +79,12 @@ impl<M: Medium> Running<M> {
     // A suspended bus changes nothing of the stick.
     pub fn bus_suspend(&mut self)
         ensures stick { stick_of M.meaning self.new ≡ stick_of M.meaning self.old }
-        ensures layout { layout_of self.new.layout ≡ layout_of self.old.layout }
+        ensures layout { self.new.layout ≡ self.old.layout }
     {}
 
     // Nor does a bus that resumes.
     pub fn bus_resume(&mut self)
         ensures stick { stick_of M.meaning self.new ≡ stick_of M.meaning self.old }
-        ensures layout { layout_of self.new.layout ≡ layout_of self.old.layout }
+        ensures layout { self.new.layout ≡ self.old.layout }
     {}
 }

@@ -6,8 +6,6 @@ ghost use Rattle.model.specs.Sticks.{interface, interface_up, powered_up, repowe
 ghost use Rattle.model.specs.Units.{any_phrase};
 ghost use Rattle.model.specs.declared.ids.Ids.TheVariants.{Negotiable, ScsiBbb};
 ghost use Rattle.units.specs.Records.{record_of};
-ghost use Rattle.layout.specs.Tables.{layout_of};
-ghost use Rattle.interfaces.specs.Tables.{interfaces_of};
 ghost use Rattle.stick.specs.Meaning.{units_in, stick_of};
 
 use super::{Running, Unpowered};
@@ -15,49 +13,42 @@ use interfaces::table::Interfaces;
 use layout::table::Layout;
 use medium::Medium;
 use model::ids::{Ids, Interface, Phase};
-use units::row::{Quality, Row};
 use units::rows::Rows;
-use units::table::is_any;
 
-// An interface at power-up: Negotiable exactly if one of its units holds a passphrase.
-fn interface_up(rows: &[Row]) -> Interface
-    ensures { result ≡ interface (if any_phrase (map record_of rows.now) then Negotiable else ScsiBbb) false }
+// The identity at power-up: Negotiable exactly if one of an interface's units holds a passphrase.
+fn ids_up(is_personal: bool) -> Ids
+    ensures { result ≡ (if is_personal then Negotiable else ScsiBbb) }
 {
-    let ids = if is_any(rows, Quality::Personal) {
+    if is_personal {
         Ids::Negotiable
     } else {
         Ids::ScsiBbb
-    };
-    Interface { ids, jammed: false }
+    }
 }
 
-const NO_INTERFACE: Interface = Interface {
-    ids: Ids::ScsiBbb,
-    jammed: false,
-};
-
-// The interfaces at power-up. Units are numbered through, interface 0 first.
+// The interfaces at power-up. Units are numbered through, interface 0 first: the sum goes along, where a chain over the layout's ranges would
+// sum up anew for each interface.
 fn interfaces_up(layout: &Layout, units: &Rows) -> Interfaces
-    ensures list { interfaces_of result ≡ map (interface_up (layout_of layout.now) (units_in layout.now units.now)) (range_with_len 0 (length (layout_of layout.now).counts)) }
-    ensures count { result.count ≡ layout.now.interface_count }
+    ensures list { result ≡ map (interface_up layout.now (units_in layout.now units.now)) (range_with_len 0 (length layout.now.counts)) }
+    ensures count { length result ≡ length layout.now.counts }
 {
-    let mut list = [NO_INTERFACE; 4];
+    let mut interfaces = Interfaces::new();
     let mut first = 0;
-    for i in 0..layout.interface_count {
-        let end = first + layout.unit_counts[i] as usize;
-        list[i] = interface_up(&units.rows[first..end]);
+    for count in layout.unit_counts() {
+        let end = first + usize::from(*count);
+        interfaces.push(Interface {
+            ids: ids_up(units.is_any_personal(first..end)),
+            jammed: false,
+        });
         first = end;
     }
-    Interfaces {
-        list,
-        count: layout.interface_count,
-    }
+    interfaces
 }
 
 impl<M: Medium> Unpowered<M> {
     // Fits a stick to a medium by layout bytes, whatever they are: against a rule it has no interface. Its units are new.
     pub fn fit(medium: M, layout_bytes: &[u8]) -> Unpowered<M>
-        ensures layout { layout_of result.layout ≡ fitted_layout layout_bytes.now (length (M.meaning medium)) }
+        ensures layout { result.layout ≡ fitted_layout layout_bytes.now (length (M.meaning medium)) }
         ensures units { units_in result.layout result.units ≡ fitted_units (fitted_layout layout_bytes.now (length (M.meaning medium))) }
         ensures medium { M.meaning result.medium ≡ M.meaning medium }
         ensures same { result.medium ≡ «medium» }
@@ -73,8 +64,8 @@ impl<M: Medium> Unpowered<M> {
 
     // Power-up: no interface change is under way, units that hold a passphrase are Locked, flags, sense and jams are cleared.
     pub fn power_up(self) -> Running<M>
-        ensures stick { stick_of M.meaning result ≡ powered_up (layout_of self.layout) (units_in self.layout self.units) (M.meaning self.medium) }
-        ensures layout { layout_of result.layout ≡ layout_of self.layout }
+        ensures stick { stick_of M.meaning result ≡ powered_up self.layout (units_in self.layout self.units) (M.meaning self.medium) }
+        ensures layout { result.layout ≡ self.layout }
         ensures same { result.medium ≡ self.medium }
     {
         let Unpowered {
@@ -97,7 +88,7 @@ impl<M: Medium> Unpowered<M> {
 impl<M: Medium> Running<M> {
     // Power-down keeps the layout, the units' records and the medium, and nothing else.
     pub fn power_down(self) -> Unpowered<M>
-        ensures layout { layout_of result.layout ≡ layout_of self.layout }
+        ensures layout { result.layout ≡ self.layout }
         ensures units { units_in result.layout result.units ≡ (stick_of M.meaning self).units }
         ensures medium { M.meaning result.medium ≡ (stick_of M.meaning self).blocks }
         ensures same { result.medium ≡ self.medium }
@@ -118,8 +109,8 @@ impl<M: Medium> Running<M> {
 
     // A power cycle: power-down and the next power-up together.
     pub fn power_cycle(self) -> Running<M>
-        ensures stick { stick_of M.meaning result ≡ repowered (layout_of self.layout) (stick_of M.meaning self) }
-        ensures layout { layout_of result.layout ≡ layout_of self.layout }
+        ensures stick { stick_of M.meaning result ≡ repowered self.layout (stick_of M.meaning self) }
+        ensures layout { result.layout ≡ self.layout }
         ensures same { result.medium ≡ self.medium }
     {
         self.power_down().power_up()
@@ -129,7 +120,7 @@ impl<M: Medium> Running<M> {
 // Fits a stick and powers it up for the first time.
 pub fn start<M: Medium>(medium: M, layout_bytes: &[u8]) -> Running<M>
     ensures stick { stick_of M.meaning result ≡ first (fitted_layout layout_bytes.now (length (M.meaning medium))) (M.meaning medium) }
-    ensures layout { layout_of result.layout ≡ fitted_layout layout_bytes.now (length (M.meaning medium)) }
+    ensures layout { result.layout ≡ fitted_layout layout_bytes.now (length (M.meaning medium)) }
     ensures same { result.medium ≡ «medium» }
 {
     Unpowered::fit(medium, layout_bytes).power_up()

@@ -1,45 +1,41 @@
-use Rattle.std.proofs.Common.{◌≡◌, ◌+◌, ◌-◌, ◌*◌, List, length, get_or, take, drop, sym, ap, ◌∙◌, subst, arith}
-use Rattle.std.proofs.lemmas.List.{length-take, length-drop}
-use Rattle.model.specs.Blocks.{Block, bad, written}
-use Rattle.medium.proofs.Calls.{refused_write}
-use Rattle.commands.proofs.Loading.{bad_seen}
-use Rattle.commands.proofs.Keeping.{Along, along_more, along_bad, good_there}
+use Rattle.std.proofs.Common.{◌≡◌, ◌+◌, ◌*◌, ◌<◌, true, ◌++◌, length, take, drop, Ok, is_err, sym, ap, ◌∙◌, arith, rules}
+use Rattle.std.proofs.lemmas.List.{take_at, drop_at, drop-drop}
+use Rattle.std.specs.Iterator.Adapters.{zip_first, zip_second}
+use Rattle.std.specs.Slice.Iter.{chunks_exact_rest}
+use Rattle.commands.proofs.Keeping.{write_stops, write_goes_on}
 use Rattle.commands.proofs.blocks.write_blocks.Goals as goal
 
-pub returns-in-Err : goal.returns-in-Err
-returns-in-Err g c =
-    let m = g.M.Medium.meaning c.loop-i.medium in
-    let i = c.loop-i.i in
-    let b = c.args.start + c.args.address in
-    let at = c.args.start + (c.args.address + i) in
-    let far : at ≡ b + i = omega arith in
-    let ds = c.args.buffer.now in
-    let part = take (512 * i + 512 - 512 * i) (drop (512 * i) ds) in
-    let l : length part ≡ 512 = simp (length-take, length-drop) (omega arith) in
-    let no = sym c.in-Err.ensures.answer in
-    let seen = bad_seen m at (length part) c.in-Err.fault l no in
-    let e = along_bad _ b c.args.count ds m i c.loop-i-test.true (ap (λ x. get_or m x bad) (sym far) ∙ seen) c.loop-i.invariant.0 in
-    record {
-      moved = e.0;
-      short = c.loop-i-test.true;
-      after = c.write_unit.ensures.after ∙ refused_write m at part c.in-Err.fault no ∙ e.1;
-    }
+pub returns-in_err-map_err : goal.returns-in_err-map_err
+returns-in_err-map_err g c =
+    let i = (zip_first c.loop-moved.moved-iterator).start in
+    let at : c.in-Some.moved ≡ i = search rules in
+    let long : length c.in-Some.part.now ≡ 512 = search rules in
+    let lt : i < c.args.span.count = search rules in
+    let err : is_err c.write_block.result ≡ true = search rules in
+    let answer = rw at at c.write_block.ensures.answer in
+    let e = write_stops _ _ _ _ _ i c.in-Some.part.now c.write_block.result lt long answer c.loop-moved.invariant.2 err in
+    record { moved = search rules; short = search rules; after = rw (c.write_block.ensures.after, at) e.1 }
 
-pub loop-i-preserved : goal.loop-i-preserved
-loop-i-preserved g c =
-    let m0 = g.M.Medium.meaning c.args.medium.now in
-    let m = g.M.Medium.meaning c.loop-i.medium in
-    let i = c.loop-i.i in
-    let b = c.args.start + c.args.address in
-    let at = c.args.start + (c.args.address + i) in
-    let far : at ≡ b + i = omega arith in
-    let ds = c.args.buffer.now in
-    let w : 512 * i + 512 - 512 * i ≡ 512 = omega arith in
-    let part = take (512 * i + 512 - 512 * i) (drop (512 * i) ds) in
-    let there = good_there m at (length part) (sym c.in-Ok.ensures.answer) in
-    let after : g.M.Medium.meaning c.write_unit.new.medium ≡ written m (b + i) (take 512 (drop (512 * i) ds)) =
-    c.write_unit.ensures.after ∙ ap (λ x. written m x part) far ∙ ap (λ k. written m (b + i) (take k (drop (512 * i) ds))) w in (
-      subst (λ (x : List Block). Along m0 b c.args.count ds x (i + 1)) (sym after)
-          (along_more m0 b c.args.count ds m there.0 i c.loop-i-test.true (ap (λ x. get_or m x bad) (sym far) ∙ there.1) c.loop-i.invariant.0),
-      omega (arith, c.loop-i-test.true),
+pub loop-moved-preserved : goal.loop-moved-preserved
+loop-moved-preserved g c =
+    let i = (zip_first c.loop-moved.moved-iterator).start in
+    let at : c.in-Some.moved ≡ i = search rules in
+    let part = c.in-Some.part.now in
+    let rest = chunks_exact_rest (zip_second c.next.new.self) in
+    let long : length part ≡ 512 = search rules in
+    let lt : i < c.args.span.count = search rules in
+    let next : (zip_first c.next.new.self).start ≡ i + 1 = search rules in
+    let ok : ◌≡◌ {A = _} c.write_block.result (Ok tt) = search rules in
+    let answer = rw at at c.write_block.ensures.answer in
+    let parts : drop (512 * i) c.args.buffer.now ≡ part ++ rest = search rules in
+    let cut : part ≡ take 512 (drop (512 * i) c.args.buffer.now) = sym (take_at part rest 512 long) ∙ ap (take 512) (sym parts) in
+    let far : drop (512 * (i + 1)) c.args.buffer.now ≡ rest =
+    ap (λ x. drop x c.args.buffer.now) (omega arith) ∙ sym (drop-drop 512 (512 * i) c.args.buffer.now) ∙ ap (drop 512) parts ∙ drop_at part rest 512 long in (
+      search rules,
+      tt,
+      rw (c.write_block.ensures.after, at, next) (write_goes_on _ _ _ _ _ i part c.write_block.result lt long answer c.loop-moved.invariant.2 ok cut),
+      omega arith,
+      search rules,
+      search rules,
+      rw next (sym far),
     )

@@ -1,20 +1,20 @@
-use Rattle.std.proofs.Common.{◌<◌, ◌≤◌, length, ◌∙◌, arith, drop-set-lt}
-use Rattle.std.proofs.lemmas.List.{length-set}
-use Rattle.layout.proofs.Pairs.{pairs_all, pairs_more}
+use Rattle.std.proofs.Common.{◌++◌, ◌∷◌, [], ◌/◌, map, take, length, sym, ap, ◌∙◌, arith}
+use Rattle.std.proofs.lemmas.List.{length-map, length-take, map_more, take_all}
+use Rattle.layout.proofs.Pairs.{place_in, pairs_in_chunks}
 use Rattle.layout.proofs.read.read_places.Goals as goal
 
-pub loop-i-preserved : goal.loop-i-preserved
-loop-i-preserved c =
-    let room : c.loop-i.i < length c.loop-i.places = omega arith in (
-      pairs_more c.loop-i.places c.loop-i.i c.args.bytes.now c.place_at.result room c.place_at.ensures c.loop-i.invariant.0,
-      length-set c.loop-i.places c.loop-i.i c.place_at.result ∙ c.loop-i.invariant.1,
-      (λ k h. drop-set-lt k c.loop-i.places c.loop-i.i c.place_at.result (omega arith) ∙ c.loop-i.invariant.2 k (omega arith)),
-    )
+pub push-requires : goal.push-requires
+push-requires c = simp (c.loop-pair.invariant, length-map, length-take) (omega arith)
 
-pub returns : goal.returns
-returns c =
-    let all : c.args.count ≤ c.loop-i.i = omega arith in
-    record {
-      front = pairs_all c.loop-i.places c.args.count c.args.bytes.now (omega arith) (λ k d h. c.loop-i.invariant.0 k d (omega arith));
-      rest = c.loop-i.invariant.2 c.args.count (omega arith);
-    }
+pub loop-pair-preserved : goal.loop-pair-preserved
+loop-pair-preserved c =
+    c.push.ensures.items
+    ∙ ap (λ ps. ps ++ c.place_of.result ∷ []) c.loop-pair.invariant
+    ∙ ap (λ p. map place_in (take c.loop-pair.pair-index c.as_chunks.result.0.now) ++ p ∷ []) c.place_of.ensures
+    ∙ sym (map_more place_in c.as_chunks.result.0.now c.loop-pair.pair-index _ c.loop-pair-test.true)
+
+pub returns-clause-value : goal.returns-clause-value
+returns-clause-value c =
+    c.loop-pair.invariant
+    ∙ ap (map place_in) (take_all c.loop-pair.pair-index c.as_chunks.result.0.now c.loop-pair-test.false ∙ c.as_chunks.ensures.front)
+    ∙ pairs_in_chunks (length c.args.bytes.now / 8) c.args.bytes.now

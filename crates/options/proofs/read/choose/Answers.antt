@@ -10,14 +10,14 @@ returns-in_err-take c =
     rw (p.1, p.2)
     (λ h. stopped string_bytes c.loop-rest.rest.now (choice_of c.loop-rest.chosen) c.in_err-take.field-0.0 c.word-item.result c.value-item.result
     c.as_str.result.now c.as_str-in-len2-up.result.now (search rules) c.word-item.is c.value-item.is c.as_str.ensures.value
-    c.as_str-in-len2-up.ensures.value (c.in_err-take.ensures h)
+    c.as_str-in-len2-up.ensures.value (c.in_err-take.ensures.said h)
     ∙ c.loop-rest.invariant)
 
 pub loop-rest-preserved : goal.loop-rest-preserved
 loop-rest-preserved c =
     taken string_bytes c.loop-rest.rest.now (choice_of c.loop-rest.chosen) (choice_of c.take.new.self) c.word-item.result c.value-item.result
     c.as_str.result.now c.as_str-in-len2-up.result.now (search rules) c.word-item.is c.value-item.is c.as_str.ensures.value
-    c.as_str-in-len2-up.ensures.value c.in_ok-take.ensures
+    c.as_str-in-len2-up.ensures.value c.in_ok-take.ensures.said
     ∙ c.loop-rest.invariant
 
 pub returns-in-empty : goal.returns-in-empty

@@ -2,7 +2,6 @@ use Rattle.std.proofs.Common.{◌≡◌, ℕ, ◌≤◌, List, length, vec_items
 use Rattle.std.proofs.lemmas.List.{with_items_is}
 use Rattle.events.specs.Happenings.{event_of, unhanded}
 use Rattle.events.specs.declared.Event.{Event}
-use Rattle.layout.specs.Tables.{layout_of}
 use Rattle.model.specs.Bulk.{Bulked, bulked}
 use Rattle.model.specs.Control.{Transferred, controlled}
 use Rattle.model.specs.Events.{after_bulk, after_control, step, stepped}
@@ -13,7 +12,7 @@ use Rattle.trial.proofs.run.perform.Goals as goal
 pub returns-in-Control : goal.returns-in-Control
 returns-in-Control g c =
     let of = stick_of g.M.Medium.meaning in
-    let lay = layout_of c.args.stick.layout in
+    let lay = c.args.stick.layout in
     let s = of c.control-result.new.self in
     let buf = c.control-result.new.buffer in
     let setup = c.as_slice.result.now in
@@ -36,7 +35,7 @@ returns-in-Control g c =
 pub returns-in-Bulk : goal.returns-in-Bulk
 returns-in-Bulk g c =
     let of = stick_of g.M.Medium.meaning in
-    let lay = layout_of c.args.stick.layout in
+    let lay = c.args.stick.layout in
     let s = of c.bulk-result.new.self in
     let i = c.in-Bulk.interface in
     let buf = c.bulk-result.new.buffer in

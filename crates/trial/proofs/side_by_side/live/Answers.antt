@@ -1,5 +1,4 @@
 use Rattle.std.proofs.Common.{map, vec_items}
-use Rattle.layout.specs.Tables.{layout_of}
 use Rattle.stick.specs.Meaning.{stick_of}
 use Rattle.trial.specs.Turns.{event_in, reply_in}
 use Rattle.trial.proofs.Lives.{life}
@@ -11,6 +10,6 @@ returns g c =
     life c.args.layout.now (g.M.Medium.meaning c.args.medium)
     (map event_in (vec_items c.args.history.now)) (map event_in (vec_items c.args.further.now))
     (map reply_in (vec_items c.run-stick.new.turns)) (map reply_in (vec_items c.run.new.turns))
-    (layout_of c.start.result.layout) (layout_of c.run-stick.result.layout) (of c.start.result) (of c.run-stick.result) (of c.run.result)
+    c.start.result.layout c.run-stick.result.layout (of c.start.result) (of c.run-stick.result) (of c.run.result)
     c.start.ensures.stick c.start.ensures.layout c.run-stick.ensures.end c.run-stick.ensures.replies c.run-stick.ensures.layout
     c.run.ensures.end c.run.ensures.replies

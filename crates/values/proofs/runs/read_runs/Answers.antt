@@ -1,9 +1,41 @@
-use Rattle.std.proofs.Common.{vec_items}
-use Rattle.values.proofs.Pieces.{behind_pair}
+use Rattle.std.proofs.Common.{◌≡◌, length, drop, vec_items, Some, None, Err, ap, ◌∙◌, rules}
+use Rattle.std.specs.Prelude.{◌==◌}
+use Rattle.std.proofs.lemmas.Iterator.Consumers.{YieldsList-turn, YieldsList-end}
+use Rattle.std.proofs.lemmas.Iterator.Splits.{YieldsList-from_slice_split}
+use Rattle.std.proofs.lemmas.List.{length_push}
+use Rattle.values.specs.Runs.{pieces, pairs_said, pair_said, runs_said}
+use Rattle.values.specs.declared.error.Mistake.TheVariants.{MalformedValue}
+use Rattle.values.proofs.Pieces.{behind, behind_pair, behind_stop, behind_all}
 use Rattle.values.proofs.runs.read_runs.Goals as goal
+
+pub returns-in_err-ok_or : goal.returns-in_err-ok_or
+returns-in_err-ok_or c =
+    let text = c.args.text.now in
+    let t =
+    YieldsList-turn (YieldsList-from_slice_split _ (λ x. x == 0x2C) text (search rules) (search rules) (search rules) (λ x b q k. search rules))
+    c.loop-pair.yielded _ c.loop-pair.yielded_by _ _ c.in-Some.pair c.in-Some.is c.next.ensures.steps in
+    let e : c.from_residual.result ≡ Err MalformedValue = search rules in
+    let said : None ≡ pair_said c.in-Some.pair.now = search rules in
+    rw e (λ h. behind_stop (pieces 0x2C text) (length c.loop-pair.yielded) c.in-Some.pair.now (vec_items c.loop-pair.runs) (runs_said text) t said c.loop-pair.invariant.2)
 
 pub loop-pair-preserved : goal.loop-pair-preserved
 loop-pair-preserved c =
-    behind_pair c.args.text.now c.loop-pair.rest.now c.in-Some.pair.now c.in-Some.tail.now
-    (vec_items c.loop-pair.runs) (vec_items c.push.new.self) c.in-Some-read_pair.found
-    c.in-Some.ensures.pieces c.in-Some-read_pair.ensures c.in_ok-push.ensures.items c.loop-pair.invariant
+    let text = c.args.text.now in
+    let t =
+    YieldsList-turn (YieldsList-from_slice_split _ (λ x. x == 0x2C) text (search rules) (search rules) (search rules) (λ x b q k. search rules))
+    c.loop-pair.yielded _ c.loop-pair.yielded_by _ _ c.in-Some.pair c.in-Some.is c.next.ensures.steps in
+    let said : Some c.in_ok-ok_or.field-0 ≡ pair_said c.in-Some.pair.now = search rules in (
+      search rules,
+      search rules,
+      ap (λ n. behind (vec_items c.push.new.self) (pairs_said (drop n (pieces 0x2C text)))) (length_push c.loop-pair.yielded c.in-Some.pair)
+          ∙ behind_pair (pieces 0x2C text) (length c.loop-pair.yielded) c.in-Some.pair.now (vec_items c.loop-pair.runs) (vec_items c.push.new.self)
+          c.in_ok-ok_or.field-0 (runs_said text) t said (search rules) c.loop-pair.invariant.2,
+    )
+
+pub returns : goal.returns
+returns c =
+    let text = c.args.text.now in
+    let t =
+    YieldsList-end (YieldsList-from_slice_split _ (λ x. x == 0x2C) text (search rules) (search rules) (search rules) (λ x b q k. search rules))
+    c.loop-pair.yielded _ c.loop-pair.yielded_by _ _ c.in-None.is c.next.ensures.steps in
+    behind_all (pieces 0x2C text) (length c.loop-pair.yielded) (vec_items c.loop-pair.runs) (runs_said text) t.1 c.loop-pair.invariant.2

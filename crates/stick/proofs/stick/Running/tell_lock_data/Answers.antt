@@ -1,33 +1,26 @@
-use Rattle.std.proofs.Common.{◌≡◌, ℕ, ◌<◌, get_or, Option, sym, ap, ◌∙◌, rules}
-use Rattle.layout.specs.Tables.{layout_of}
-use Rattle.model.specs.Control.{answered, blocks_of, tell_lock_data, unit_at}
-use Rattle.model.specs.Layouts.{place, place_count}
-use Rattle.model.specs.LockData.{lock_data}
-use Rattle.model.specs.Units.{new_unit}
+use Rattle.std.proofs.Common.{◌≡◌, ◌<◌, length, get_or, Some, sym, ap, ◌∙◌, rules}
 use Rattle.std.proofs.lemmas.List.{get_or-take}
+use Rattle.model.specs.Control.{answered, blocks_of, find_unit, tell_lock_data, unit_at}
+use Rattle.model.specs.LockData.{lock_data}
+use Rattle.model.specs.Units.{UnitRecord, new_unit}
+use Rattle.model.specs.declared.layout.Place.{Place}
 use Rattle.stick.specs.Meaning.{stick_of}
-use Rattle.units.specs.Tables.{records_of}
 use Rattle.stick.proofs.stick.Running.tell_lock_data.Goals as goal
 
-pub returns : goal.returns
-returns g c =
-    let l = c.args.self.now.layout in
-    let s = stick_of g.M.Medium.meaning c.args.self.now in
-    let i = c.args.interface in
-    let k = c.args.unit in
-    let n = c.args.wanted in
-    let room = c.args.room in
-    let lay = layout_of l in
-    let v = c.in-Some.index in
-    let low : v < l.unit_count = search rules in
-    let records = records_of c.args.self.now.units in
-    let blocks : (get_or l.places v (place 0 0)).count ≡ blocks_of lay v = sym (ap place_count (get_or-take l.unit_count l.places v (place 0 0) low)) in
-    let unit : get_or records v new_unit ≡ unit_at v s = sym (get_or-take l.unit_count records v new_unit low) in
-    record {
-      outcome = c.cut.ensures.outcome s
-          ∙ ap (λ w. answered n room w s) (c.as_slice.ensures.bytes ∙ c.lock_data-whole.ensures)
-          ∙ ap (λ b. answered n room (lock_data b i k (get_or records v new_unit)) s) blocks
-          ∙ ap (λ u. answered n room (lock_data (blocks_of lay v) i k u) s) unit
-          ∙ ap (λ (o : Option ℕ). tell_lock_data lay o i k n room s) c.in-Some.ensures.value;
-      room = c.cut.ensures.room;
-    }
+pub returns-clause-outcome : goal.returns-clause-outcome
+returns-clause-outcome g c =
+    let self = c.args.self.now in
+    let s = stick_of g.M.Medium.meaning self in
+    let i = c.args.address.interface in
+    let k = c.args.address.unit in
+    let n = c.args.stage.length in
+    let room = length c.args.stage.data.now in
+    let v = c.in_ok-index.index in
+    let found : Some v ≡ find_unit self.layout i k = sym c.in_ok-index.ensures.ok_part ∙ c.find_unit.ensures.value in
+    let low : v < length self.layout.places = search rules in
+    let unit : get_or self.units v new_unit ≡ unit_at v s = sym (get_or-take (length self.layout.places) self.units v new_unit low) in
+    c.cut.ensures.outcome s
+    ∙ ap (λ w. answered n room w s) (c.as_slice.ensures.bytes ∙ c.lock_data-whole.ensures)
+    ∙ ap (λ (p : Place). answered n room (lock_data p.count i k (get_or self.units v new_unit)) s) c.place-blocks.ensures
+    ∙ ap (λ (u : UnitRecord). answered n room (lock_data (blocks_of self.layout v) i k u) s) unit
+    ∙ ap (λ o. tell_lock_data self.layout o i k n room s) found

@@ -1,45 +1,52 @@
-use Rattle.std.proofs.Common.{◌+◌, ◌-◌, map, get_or, take, drop, sym, refl, ap, ◌∙◌, arith, rules}
-use Rattle.std.proofs.lemmas.List.{take-map, drop-map}
-use Rattle.layout.specs.Tables.{layout_of}
-use Rattle.units.specs.Records.{record_of}
-use Rattle.units.specs.Tables.{records_of}
-use Rattle.stick.proofs.Ups.{upped_none, upped_more, upped_all, upped_room}
+use Rattle.std.proofs.Common.{◌≡◌, ◌+◌, ◌≤◌, false, cond, [], ◌∷◌, ◌++◌, length, get_or, take, sym, ap, ◌∙◌, arith}
+use Rattle.std.specs.List.{slice_range}
+use Rattle.std.proofs.lemmas.List.{take_all, length-append}
+use Rattle.std.proofs.lemmas.List.FromFn.{length-map-range_with_len}
+use Rattle.layout.proofs.Sums.{sum_next, sum_within}
+use Rattle.model.specs.Layouts.{sum}
+use Rattle.model.specs.Sticks.{interface, interface_up}
+use Rattle.model.specs.Units.{any_phrase}
+use Rattle.model.specs.declared.ids.Ids.TheVariants.{Negotiable, ScsiBbb}
+use Rattle.stick.specs.Meaning.{units_in}
+use Rattle.stick.proofs.Ups.{own_units, ups_more}
 use Rattle.stick.proofs.stick.power.interfaces_up.Goals as goal
 
 pub overflow_add-end : goal.overflow_add-end
 overflow_add-end c =
-    let l = c.args.layout.now in
-    let room = upped_room (layout_of l) l.unit_counts l.interface_count l.unit_count (records_of c.args.units.now) refl l.all_units c.loop-i.i c.loop-i.first 16 c.loop-i.list (search rules) l.few_units c.loop-i.invariant in
-    omega arith
+    let i = c.loop-count.count-index in
+    let told = c.unit_counts-count-items.ensures in
+    let first : c.loop-count.first ≡ sum (take i c.unit_counts-count-items.result.now) = c.loop-count.invariant.next ∙ ap (λ cs. sum (take i cs)) (sym told.value) in
+    omega (arith, sum_within c.unit_counts-count-items.result.now i)
 
-pub offset_bounds-units-first : goal.offset_bounds-units-first
-offset_bounds-units-first c =
-    let l = c.args.layout.now in
-    let room = upped_room (layout_of l) l.unit_counts l.interface_count l.unit_count (records_of c.args.units.now) refl l.all_units c.loop-i.i c.loop-i.first 16 c.loop-i.list (search rules) l.few_units c.loop-i.invariant in
-    omega arith
+pub loop-count-preserved : goal.loop-count-preserved
+loop-count-preserved c =
+    let lay = c.args.layout.now in
+    let us = c.args.units.now in
+    let i = c.loop-count.count-index in
+    let told = c.unit_counts-count-items.ensures in
+    let f = sum (take i lay.counts) in
+    let n = get_or lay.counts i 0 in
+    let first : c.loop-count.first ≡ f = c.loop-count.invariant.next in
+    let count : c.from.result ≡ n = c.from.ensures ∙ ap (λ cs. get_or cs i 0) told.value in
+    let room : f + n ≤ length lay.places = omega (arith, sum_within lay.counts i, ap sum told.value) in
+    let own : slice_range us c.loop-count.first (c.loop-count.first + c.from.result) ≡ slice_range us f (f + n) =
+    ap (λ k. slice_range us k (k + c.from.result)) first ∙ ap (λ k. slice_range us f (f + k)) count in
+    let any = c.is_any_personal.ensures ∙ ap any_phrase (own ∙ own_units lay us i room) in
+    let before : length c.loop-count.interfaces ≡ i =
+    ap length c.loop-count.invariant.up ∙ length-map-range_with_len (interface_up lay (units_in lay us)) 0 i in
+    record {
+      next = omega (arith, sum_next lay.counts i);
+      up = c.push.ensures
+          ∙ take_all 4 (c.loop-count.interfaces ++ interface c.ids_up.result false ∷ []) (omega (arith, length-append c.loop-count.interfaces (interface c.ids_up.result false ∷ [])))
+          ∙ ups_more (interface_up lay (units_in lay us)) i _ c.loop-count.interfaces
+          (ap (λ x. interface x false) (c.ids_up.ensures ∙ ap (λ b. cond b Negotiable ScsiBbb) any)) c.loop-count.invariant.up;
+    }
 
-pub slice_bounds-interface_up-end : goal.slice_bounds-interface_up-end
-slice_bounds-interface_up-end c =
-    let l = c.args.layout.now in
-    let room = upped_room (layout_of l) l.unit_counts l.interface_count l.unit_count (records_of c.args.units.now) refl l.all_units c.loop-i.i c.loop-i.first 16 c.loop-i.list (search rules) l.few_units c.loop-i.invariant in
-    search rules
-
-pub loop-i-init : goal.loop-i-init
-loop-i-init c =
-    let l = c.args.layout.now in
-    upped_none (layout_of l) l.unit_counts l.interface_count l.unit_count (records_of c.args.units.now) refl l.all_units _ refl
-
-pub loop-i-preserved : goal.loop-i-preserved
-loop-i-preserved c =
-    let l = c.args.layout.now in
-    let rows = c.args.units.now.rows in
-    let end = c.loop-i.first + get_or l.unit_counts c.loop-i.i 0 in
-    upped_more (layout_of l) l.unit_counts l.interface_count l.unit_count (records_of c.args.units.now) refl l.all_units c.loop-i.i c.loop-i.first end c.loop-i.list c.interface_up.result
-    (map record_of (take (end - c.loop-i.first) (drop c.loop-i.first rows)))
-    (search rules) l.few_interfaces refl (sym (ap (take (end - c.loop-i.first)) (drop-map record_of c.loop-i.first rows) ∙ take-map record_of (end - c.loop-i.first) (drop c.loop-i.first rows)))
-    c.interface_up.ensures c.loop-i.invariant
-
-pub returns : goal.returns
-returns c =
-    let l = c.args.layout.now in
-    record { list = upped_all (layout_of l) l.unit_counts l.interface_count l.unit_count (records_of c.args.units.now) refl l.all_units c.loop-i.i c.loop-i.first c.loop-i.list (search rules) l.few_interfaces l.each_counted c.loop-i.invariant; count = refl }
+pub returns-clause-count : goal.returns-clause-count
+returns-clause-count c =
+    let lay = c.args.layout.now in
+    let i = c.loop-count.count-index in
+    let told = c.unit_counts-count-items.ensures in
+    ap length c.loop-count.invariant.up
+    ∙ length-map-range_with_len (interface_up lay (units_in lay c.args.units.now)) 0 i
+    ∙ omega (arith, ap length told.value)

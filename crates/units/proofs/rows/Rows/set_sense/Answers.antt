@@ -1,27 +1,16 @@
-use Rattle.std.proofs.Common.{◌<◌, ◌≤◌, length, sym, ◌∙◌, arith}
+use Rattle.std.proofs.Common.{◌∙◌, arith}
 use Rattle.model.specs.Bulk.{with_sense}
 use Rattle.model.specs.Units.{new_unit}
-use Rattle.std.proofs.lemmas.List.{length-map, length-set}
-use Rattle.units.specs.Tables.{records_of}
-use Rattle.units.proofs.Tables.{sound_at, sound_set, alter_past, row_altered}
+use Rattle.units.proofs.Tables.{sound_at, rows_kept, row_altered, no_row_altered}
 use Rattle.units.proofs.rows.Rows.set_sense.Goals as goal
-
-pub set_sense-requires : goal.set_sense-requires
-set_sense-requires c = sound_at c.args.self.now.rows c.args.index _ (omega (arith, c.args.self.now.full)) c.args.self.now.sound
 
 pub invariant_of-self : goal.invariant_of-self
 invariant_of-self c =
-    let s = c.args.self.now in
-    record { full = length-set s.rows c.args.index c.set_sense.new.self ∙ s.full; sound = sound_set s.rows c.args.index c.set_sense.new.self c.set_sense.ensures.sound s.sound }
+    rows_kept c.self.inside.rows c.args.index c.set_sense.new.self c.self.invariant (c.set_sense.ensures.sound ∙ sound_at c.self.inside.rows c.args.index _ (omega arith) c.self.invariant.1)
 
-pub returns-then-index-lt-MOST_UNITS : goal.returns-then-index-lt-MOST_UNITS
-returns-then-index-lt-MOST_UNITS c =
-    let s = c.args.self.now in
-    let low : c.args.index < length s.rows = omega (arith, s.full) in
-    row_altered (with_sense c.args.sense) s.rows c.args.index _ c.set_sense.new.self new_unit low c.set_sense.ensures.record
+pub returns-then-index-lt16 : goal.returns-then-index-lt16
+returns-then-index-lt16 c =
+    row_altered (with_sense c.args.sense) c.self.inside.rows c.args.self.now c.args.index c.self.view_is _ c.set_sense.new.self new_unit (omega arith) c.set_sense.ensures.record
 
-pub returns-else-index-lt-MOST_UNITS : goal.returns-else-index-lt-MOST_UNITS
-returns-else-index-lt-MOST_UNITS c =
-    let s = c.args.self.now in
-    let past : length (records_of s) ≤ c.args.index = rw length-map (omega (arith, s.full)) in
-    sym (alter_past (with_sense c.args.sense) (records_of s) c.args.index past)
+pub returns-else-index-lt16 : goal.returns-else-index-lt16
+returns-else-index-lt16 c = no_row_altered (with_sense c.args.sense) c.self.inside.rows c.args.self.now c.args.index c.self.view_is (omega arith)

@@ -1,0 +1,51 @@
+// Lines of a script, each served before the next is read.
+// What serving a line keeps, serving them all keeps.
+ghost use Rattle.std.specs.Prelude.{◌≡◌, ℕ, Bool, true, Ok, IfOk, IfSome};
+
+use std::io::{BufRead, BufReader, Read};
+
+// Serves each line, with its number from 1 on, to what the lines before made. What is wrong with a line is told on standard error behind
+// the place that the lines come from; nothing more is read then, and nothing is answered.
+pub fn serve_lines<R, B, S, F>(
+    rt: &R,
+    source: B,
+    place: &str,
+    mut state: S,
+    serve: F,
+) -> anyhow::Result<Option<S>>
+where
+    R: Eprint + AllocGlobal,
+    B: Read + Drop,
+    S: Drop,
+    F: Fn(S, u64, &[u8]) -> anyhow::Result<S>,
+    requires { F.IsAlwaysCallable serve }
+    ensures { (p : S → Bool) → p state ≡ true → ((s : S) (n : ℕ) (line : _) (t : S) → p s ≡ true → F.post serve s n line (Ok t) → p t ≡ true) → IfOk result (λ o. IfSome o (λ t. p t ≡ true)) }
+{
+    let mut number = 0u64;
+    for line in BufReader::new(rt.alloc(), source)?.lines(rt.alloc()) {
+        number = number.saturating_add(1);
+        let line = line?;
+        match serve(state, number, line.as_bytes()) {
+            Ok(next) => state = next,
+            Err(error) => {
+                eprintln!(rt; "{place}line {number}: {error}")?;
+                return Ok(None);
+            }
+        }
+    }
+    Ok(Some(state))
+}
+
+#[cfg(test)]
+mod tests {
+    use super::*;
+    use std::test::Fail;
+
+    #[test]
+    fn each_line_once(rt: HostRuntime) -> Result<(), Fail> {
+        let lines = "one\ntwo\nthree\n".as_bytes();
+        let served = serve_lines(&rt, lines, "", 0u64, |sum, number, _| Ok(sum ^ number));
+        assert!(rt; matches!(&served, Ok(Some(0))));
+        Ok(())
+    }
+}

@@ -1,0 +1,55 @@
+// What every make of medium is made of: memory in pages of a block each, the bad runs, and the number of blocks.
+// A make adds only on which page a block lies.
+ghost use Rattle.std.specs.Prelude.{◌≡◌, ℕ, ◌+◌, ◌*◌, ◌<◌, ◌≤◌, length, vec_len};
+ghost use Rattle.model.specs.Blocks.{page as page_of, blocks, fitted_blocks};
+ghost use Rattle.medium.specs.Stored.{with_page};
+
+use crate::{PAGE, rules};
+use model::layout::BadRun;
+
+// There are SPARE pages more than blocks. With no blocks nothing is reached, and the memory may be of any size.
+#[derive(Drop)]
+pub struct Store<const SPARE: u8> {
+    pub memory: Vec<u8>,
+    pub runs: Vec<BadRun>,
+    pub count: u32,
+    ghost few: { count ≤ 1024 },
+    ghost room: { 0 < count → 512 * (count + SPARE) ≤ vec_len memory },
+}
+
+impl<const SPARE: u8> Store<SPARE> {
+    // With no blocks where a rule is broken.
+    pub fn fit(memory: Vec<u8>, runs: Vec<BadRun>) -> Store<SPARE>
+        ensures blocks { blocks result.memory.items result.runs.items result.count ≡ fitted_blocks SPARE memory.items runs.items }
+        ensures memory { result.memory.items ≡ memory.items }
+    {
+        let count = rules::inspect(SPARE, memory.len(), runs.as_slice()).unwrap_or(0);
+        Store {
+            memory,
+            runs,
+            count,
+        }
+    }
+
+    // The bytes of a page, one of those that blocks lie on or that are to spare.
+    pub fn page(&self, page: u32) -> &[u8]
+        requires { (0 < self.now.count) × (page < self.now.count + SPARE) }
+        ensures bytes { result.now ≡ page_of self.now.memory.items page }
+        ensures length { length result.now ≡ 512 }
+    {
+        let at = PAGE * page as usize;
+        &self.memory[at..at + PAGE]
+    }
+
+    // Sets a page to other bytes.
+    pub fn set_page(&mut self, page: u32, bytes: &[u8])
+        requires page { (0 < self.old.count) × (page < self.old.count + SPARE) }
+        requires length { length bytes.now ≡ 512 }
+        ensures memory { self.new.memory.items ≡ with_page self.old.memory.items page bytes.now }
+        ensures runs { self.new.runs ≡ self.old.runs }
+        ensures count { self.new.count ≡ self.old.count }
+    {
+        let at = PAGE * page as usize;
+        self.memory[at..at + PAGE].copy_from_slice(bytes);
+    }
+}

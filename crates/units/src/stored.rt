@@ -1,0 +1,55 @@
+// Bytes at the front of a fixed array, with zeros behind them.
+// Not an ArrayVec: what lies behind the stored bytes is shown to be zeros, and a row of such arrays has no invariant of its own.
+ghost use Rattle.std.specs.Prelude.{◌≡◌, ◌≤◌, true, length, replicate};
+
+#[derive(Clone, Copy)]
+pub struct Stored<const N: usize> {
+    pub bytes: [u8; N],
+    pub len: u8,
+}
+
+impl<const N: usize> Stored<N> {
+    ghost use Rattle.units.specs.Kept.{stored, tidy};
+
+    // Nothing is stored.
+    pub fn new() -> Self
+        ensures bytes { result.bytes ≡ replicate N 0 }
+        ensures len { result.len ≡ 0 }
+    {
+        Stored {
+            bytes: [0; N],
+            len: 0,
+        }
+    }
+
+    // Stores bytes, with zeros behind them, so that nothing is left of what was there.
+    pub(crate) fn set(&mut self, bytes: &[u8])
+        requires small { N ≤ 255 }
+        requires room { length bytes.now ≤ N }
+        ensures front { stored self.new ≡ bytes.now }
+        ensures len { self.new.len ≡ length bytes.now }
+        ensures tidy { tidy self.new ≡ true }
+    {
+        let len = bytes.len();
+        self.bytes.fill(0);
+        self.bytes[..len].copy_from_slice(bytes);
+        self.len = len as u8;
+    }
+
+    // The bytes that are stored.
+    pub(crate) fn as_slice(&self) -> &[u8]
+        requires { tidy self.now ≡ true }
+        ensures { result.now ≡ stored self.now }
+    {
+        &self.bytes[..usize::from(self.len)]
+    }
+}
+
+impl<const N: usize> Default for Stored<N> {
+    ghost is_default = { λ s. (s.bytes ≡ replicate N 0) × (s.len ≡ 0) };
+
+    // Nothing is stored.
+    fn default() -> Self {
+        Self::new()
+    }
+}
