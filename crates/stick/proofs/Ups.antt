@@ -1,9 +1,10 @@
 -- The units of an interface among the rows of the whole table.
-use Rattle.std.proofs.Common.{◌≡◌, ℕ, ◌+◌, ◌-◌, ◌<◌, ◌≤◌, ltb, List, [], ◌∷◌, ◌++◌, map, length, get_or, take, drop, Some, subst, sym, ap, ◌∙◌, arith}
-use Rattle.std.proofs.lemmas.Bool.{cond-true, lt-ltb}
-use Rattle.std.proofs.lemmas.List.{take-take, drop-take}
+use Rattle.std.proofs.Common.{◌≡◌, ℕ, ◌+◌, ◌-◌, ◌≤◌, Bool, true, false, cond, ltb, List, [], ◌∷◌, ◌++◌, map, length, get_or, take, drop, Some, None, Option, MatchOption, subst, sym, refl, ap, ◌∙◌, arith}
+use Rattle.std.proofs.lemmas.Bool.{ltb-false}
+use Rattle.std.proofs.lemmas.List.{take-take, drop-take, get_or_past}
 use Rattle.std.proofs.lemmas.List.FromFn.{map-range_with_len_more}
 use Rattle.std.specs.List.{range_with_len, slice_range}
+use Rattle.std.specs.Option.{IfSome}
 use Rattle.std.specs.declared.ops.Range.{Range}
 use Rattle.layout.specs.Ranges.{range, range_of}
 use Rattle.model.specs.Layouts.{Layout, sum}
@@ -25,16 +26,28 @@ own_units lay us i h =
     let size : f + c - f ≡ c = omega arith in
     ap (λ k. take k (drop f us)) size ∙ sym (part_of_first f c (length lay.places) us h)
 
--- the units of an interface that there is, by the range of their numbers
-pub in_range : (lay : Layout) (us : List UnitRecord) (i : ℕ) (r : Range ℕ) → i < length lay.counts → Some r ≡ range_of lay i → r.end ≤ length lay.places
-    → slice_range us r.start r.end ≡ units_of_interface lay i (units_in lay us)
-in_range lay us i r h e low =
-    let f = sum (take i lay.counts) in
-    let c = get_or lay.counts i 0 in
-    let there : range_of lay i ≡ Some (range f (f + c)) = cond-true (ltb i (length lay.counts)) _ _ (lt-ltb i (length lay.counts) h) in
-    let is : r ≡ range f (f + c) = cc in
-    let room : f + c ≤ length lay.places = subst (λ (q : Range ℕ). q.end ≤ length lay.places) is low in
-    ap (λ (q : Range ℕ). slice_range us q.start q.end) is ∙ own_units lay us i room
+-- what is told of an interface's units by the range of their numbers: of none where there is no such interface
+module _ (test : List UnitRecord → Bool) (empty : test [] ≡ false) (lay : Layout) (us : List UnitRecord) (i : ℕ) (b : Bool) where
+  abbrev start : ℕ
+  start = sum (take i lay.counts)
+
+  abbrev end : ℕ
+  end = start + get_or lay.counts i 0
+
+  by_place : (there : Bool) (o : Option (Range ℕ)) → ltb i (length lay.counts) ≡ there → o ≡ cond there (Some (range start end)) None → IfSome o (λ r. (r.end ≤ length lay.places) × (r.start ≤ r.end))
+      → MatchOption o (b ≡ false) (λ r. b ≡ test (slice_range us r.start r.end)) → b ≡ test (units_of_interface lay i (units_in lay us))
+  by_place false None t e low is =
+      let past : length lay.counts ≤ i = ltb-false i (length lay.counts) t in
+      is ∙ sym empty ∙ ap (λ n. test (take n (drop start (units_in lay us)))) (sym (get_or_past lay.counts i 0 past))
+  by_place false (Some r) t e low is = absurd (cc)
+  by_place true None t e low is = absurd (cc)
+  by_place true (Some r) t e low is =
+      let same : r ≡ range start end = cc in
+      is ∙ ap (λ (q : Range ℕ). test (slice_range us q.start q.end)) same ∙ ap test (own_units lay us i (subst (λ (q : Range ℕ). q.end ≤ length lay.places) same low.0))
+
+  pub by_range : (o : Option (Range ℕ)) → o ≡ range_of lay i → IfSome o (λ r. (r.end ≤ length lay.places) × (r.start ≤ r.end))
+      → MatchOption o (b ≡ false) (λ r. b ≡ test (slice_range us r.start r.end)) → b ≡ test (units_of_interface lay i (units_in lay us))
+  by_range o e = by_place (ltb i (length lay.counts)) o refl e
 
 -- one element more of those made of 0, 1, 2 ..
 pub ups_more : {A : Type 0} (up : ℕ → A) (i : ℕ) (x : A) (xs : List A) → x ≡ up i → xs ≡ map up (range_with_len 0 i) → xs ++ x ∷ [] ≡ map up (range_with_len 0 (i + 1))

@@ -31,9 +31,10 @@ impl Rows {
     pub fn lock_data(&self, index: usize, blocks: u32, address: UnitAddress) -> Answer
         ensures { result ≡ lock_data blocks address.interface address.unit (slice_index_or self.now index new_unit) }
     {
-        match self.rows.get(index) {
-            Some(row) => row.lock_data(blocks, address),
-            None => Row::new().lock_data(blocks, address),
-        }
+        let new = Row::new();
+        self.rows
+            .get(index)
+            .unwrap_or(&new)
+            .lock_data(blocks, address)
     }
 }

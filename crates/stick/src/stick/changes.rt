@@ -33,14 +33,11 @@ impl<M: Medium> Running<M> {
 
     // Whether a unit of an interface is Locked.
     fn is_any_locked(&self, interface: u8) -> bool
-        requires { interface < length self.now.layout.counts }
         ensures { result ≡ any_locked (units_of_interface self.now.layout interface (stick_of M.meaning self.now).units) }
     {
-        // With `is_some_and` the proof did not close: what the closure answers hides which range it was handed.
-        match self.layout.unit_range(interface) {
-            Some(units) => self.units.is_any_locked(units),
-            None => false,
-        }
+        self.layout
+            .unit_range(interface)
+            .is_some_and(|units| self.units.is_any_locked(units))
     }
 
     // Begins an interface change.

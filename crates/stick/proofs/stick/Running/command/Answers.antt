@@ -1,5 +1,4 @@
-use Rattle.std.proofs.Common.{◌≡◌, ◌-◌, length, get_or, take, sym, ap, ◌∙◌}
-use Rattle.std.proofs.lemmas.List.{get_or-take}
+use Rattle.std.proofs.Common.{◌≡◌, ◌-◌, length, get_or, take, ap, ◌∙◌}
 use Rattle.commands.specs.Endings.{carried_out}
 use Rattle.commands.specs.declared.ended.Target.{Target}
 use Rattle.model.specs.Bulk.{bulk_with, place_at, with_sense}
@@ -9,7 +8,7 @@ use Rattle.model.specs.Sticks.{stick}
 use Rattle.model.specs.Wrappers.{csw}
 use Rattle.model.specs.Units.{UnitRecord, new_unit}
 use Rattle.stick.specs.Meaning.{stick_of, units_in}
-use Rattle.stick.proofs.Alters.{take_alter}
+use Rattle.stick.proofs.Alters.{take_alter, own_unit}
 use Rattle.stick.proofs.Completing.{target, unit_target, out, out_is}
 use Rattle.stick.proofs.stick.Running.command.Goals as goal
 
@@ -24,7 +23,7 @@ returns-clause-bulk g c =
     let ended = c.in_ok-ended.ended in
     let buf = c.perform.new.buffer in
     let after = g.M.Medium.meaning c.perform.new.medium in
-    let unit : get_or self.units v new_unit ≡ unit_at v s = sym (get_or-take (length lay.places) self.units v new_unit c.requires) in
+    let unit : get_or self.units v new_unit ≡ unit_at v s = own_unit lay self.units v c.requires in
     let to : target c.place.result c.barrier.result c.sense.result ≡ unit_target lay v s =
     ap (λ p. target p c.barrier.result c.sense.result) c.place.ensures
     ∙ ap (λ x. target (place_at lay v) x c.sense.result) (c.barrier.ensures ∙ ap (λ (u : UnitRecord). barrier u.standing) unit)

@@ -1,9 +1,9 @@
-use Rattle.std.proofs.Common.{ap, ◌∙◌}
+use Rattle.std.proofs.Common.{refl, rules}
 use Rattle.model.specs.Units.{any_locked}
-use Rattle.stick.proofs.Ups.{in_range}
+use Rattle.stick.proofs.Ups.{by_range}
 use Rattle.stick.proofs.stick.Running.is_any_locked.Goals as goal
 
-pub returns-in-Some : goal.returns-in-Some
-returns-in-Some g c =
+pub returns : goal.returns
+returns g c =
     let self = c.args.self.now in
-    c.is_any_locked.ensures ∙ ap any_locked (in_range self.layout self.units c.args.interface c.in-Some.units c.requires (c.in-Some.ensures.value) (c.in-Some.ensures.bound.0))
+    by_range any_locked refl self.layout self.units c.args.interface c.is_some_and.result c.unit_range.result c.unit_range.ensures.value c.unit_range.ensures.bound (search rules)

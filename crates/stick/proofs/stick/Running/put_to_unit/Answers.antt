@@ -1,5 +1,4 @@
 use Rattle.std.proofs.Common.{◌≡◌, ◌<◌, Bool, ltb, [], length, get_or, Ok, Err, Result, Some, sym, refl, ap, ◌∙◌, rules}
-use Rattle.std.proofs.lemmas.List.{get_or-take}
 use Rattle.std.proofs.lemmas.Bool.{cond-true, lt-ltb}
 use Rattle.parts.specs.Carries.{put_of}
 use Rattle.model.specs.Control.{outcome, put_to_unit, find_unit, interface_at, sized, unit_at, alter, with_units}
@@ -11,7 +10,7 @@ use Rattle.model.specs.Units.{UnitRecord, new_unit}
 use Rattle.model.specs.declared.refusal.Refusal.{Refusal}
 use Rattle.stick.specs.Meaning.{stick_of, units_in}
 use Rattle.stick.specs.Outcomes.{done_of}
-use Rattle.stick.proofs.Alters.{take_alter}
+use Rattle.stick.proofs.Alters.{take_alter, own_unit}
 use Rattle.stick.proofs.stick.Running.put_to_unit.Goals as goal
 
 done_is : (r : Result (Unit {0}) Refusal) (s : Stick) → done_of r s ≡ outcome (number_of r) [] s
@@ -31,7 +30,7 @@ returns-clause-outcome g c =
     let n = is_negotiable (interface_at i s).ids in
     let q = sized c.args.put c.args.stage.length c.args.stage.data.now in
     let ids : c.is_negotiable-negotiable.result ≡ n = c.is_negotiable-negotiable.ensures ∙ ap is_negotiable c.ids.ensures in
-    let unit : get_or self.units v new_unit ≡ unit_at v s = sym (get_or-take (length lay.places) self.units v new_unit low) in
+    let unit : get_or self.units v new_unit ≡ unit_at v s = own_unit lay self.units v low in
     let code : number_of c.put_to.result ≡ (turned n q (unit_at v s)).code =
     c.put_to.ensures.code
     ∙ cond-true (ltb v 16) _ _ (lt-ltb v 16 few)

@@ -1,5 +1,4 @@
-use Rattle.std.proofs.Common.{◌≡◌, ℕ, ◌+◌, ◌-◌, ◌*◌, min, leb, List, length, get_or, sym, refl, ap, ◌∙◌}
-use Rattle.std.proofs.lemmas.List.{get_or-take}
+use Rattle.std.proofs.Common.{◌≡◌, ℕ, ◌+◌, ◌-◌, ◌*◌, min, leb, List, length, get_or, refl, ap, ◌∙◌}
 use Rattle.model.specs.Blocks.{Block}
 use Rattle.model.specs.Bulk.{place_at}
 use Rattle.model.specs.Control.{alter, unit_at}
@@ -8,7 +7,7 @@ use Rattle.model.specs.Sticks.{stick}
 use Rattle.model.specs.Units.{UnitRecord, new_unit}
 use Rattle.model.specs.declared.layout.Place.{Place}
 use Rattle.stick.specs.Meaning.{stick_of, units_in}
-use Rattle.stick.proofs.Alters.{take_alter, alter_at}
+use Rattle.stick.proofs.Alters.{take_alter, alter_at, own_unit}
 use Rattle.stick.proofs.stick.Running.recover.Goals as goal
 
 pub returns-clause-stick : goal.returns-clause-stick
@@ -21,7 +20,7 @@ returns-clause-stick g c =
     let q = place_at lay v in
     let here : p ≡ q = c.place-place.ensures in
     let d = steps_done_of (unit_at v s).standing in
-    let unit : get_or self.units v new_unit ≡ unit_at v s = sym (get_or-take (length lay.places) self.units v new_unit c.requires) in
+    let unit : get_or self.units v new_unit ≡ unit_at v s = own_unit lay self.units v c.requires in
     let done : c.steps_done-done.result ≡ d = c.steps_done-done.ensures ∙ ap (λ (u : UnitRecord). steps_done_of u.standing) unit in
     let each : ℕ → ℕ → UnitRecord → UnitRecord = λ n k u. advanced (leb n (16 * (k + 1))) u.standing u in
     let units : units_in lay c.advance.new.self ≡ alter v (each q.count d) s.units =
