@@ -4,13 +4,9 @@ use Rattle.std.proofs.lemmas.List.{drop-drop}
 use Rattle.model.specs.Blocks.{Block, bad, good, answer, written}
 use Rattle.model.specs.Commands.{one_more, good_run, stored}
 use Rattle.model.specs.declared.refusal.Fault.{Fault}
-use Rattle.medium.proofs.Calls.{way, good_from, other_kept, refused_write}
+use Rattle.medium.proofs.Calls.{other_kept, refused_write}
 use Rattle.commands.specs.Transfers.{kept}
-use Rattle.commands.proofs.Loading.{err_of, bad_seen, run_good, run_bad}
-
--- an accepted write goes to a good block
-pub good_there : (m : List Block) (b n : ℕ) → answer m b n ≡ Ok tt → (bs : List ℕ) × (get_or m b bad ≡ good bs)
-good_there m b n ok = let g = good_from m b n (way m b n) ok in (g.1.0, g.1.1.1)
+use Rattle.commands.proofs.Going.{err_of, bad_seen, good_seen, run_good, run_bad}
 
 -- a write does not change what comes after it
 run_behind : (m : List Block) (b : ℕ) (bs : List ℕ) (k c : ℕ) → b < c → good_run k c (written m b bs) ≡ good_run k c m
@@ -38,9 +34,8 @@ module _ (m0 : List Block) (b n : ℕ) (ds : List ℕ) where
       let d = drop (512 * i) ds in
       let m' = written m (b + i) (take 512 d) in
       let g = good_run k (suc (b + i)) m in
-      let left : n - i ≡ suc k = omega arith in
       let next : b + (i + 1) ≡ suc (b + i) = omega arith in
-      let one : good_run (n - i) (b + i) m ≡ suc g = ap (λ x. good_run x (b + i) m) left ∙ run_good m (b + i) k bs e in
+      let one : good_run (n - i) (b + i) m ≡ suc g = run_good m b n i lt bs e in
       let same : good_run k (b + (i + 1)) m' ≡ g = ap (λ x. good_run k x m') next ∙ run_behind m (b + i) (take 512 d) k (suc (b + i)) (omega arith) in
       let rest : drop (512 * (i + 1)) ds ≡ drop 512 d = ap (λ x. drop x ds) (omega arith) ∙ sym (drop-drop 512 (512 * i) ds) in
       record {
@@ -53,21 +48,9 @@ module _ (m0 : List Block) (b n : ℕ) (ds : List ℕ) where
             ∙ a.blocks;
       }
 
-  pub along_bad : (m : List Block) (i : ℕ) → i < n → get_or m (b + i) bad ≡ bad → Along m0 b n ds m i → (i ≡ good_run n b m0) × (m ≡ kept n b ds m0)
-  along_bad m i lt e a =
-      let left : n - i ≡ suc (n - (i + 1)) = omega arith in
-      let none : good_run (n - i) (b + i) m ≡ 0 = ap (λ x. good_run x (b + i) m) left ∙ run_bad m (b + i) (n - (i + 1)) e in (
-        omega (arith, a.moved, none),
-        sym (ap (λ x. stored x (b + i) (drop (512 * i) ds) m) none) ∙ a.blocks,
-      )
-
-  pub along_all : (m : List Block) (i : ℕ) → i ≡ n → Along m0 b n ds m i → (n ≡ good_run n b m0) × (m ≡ kept n b ds m0)
-  along_all m i is a =
-      let none : n - i ≡ 0 = omega arith in
-      let zeros : good_run (n - i) (b + i) m ≡ 0 = ap (λ x. good_run x (b + i) m) none in (
-        omega (arith, a.moved, zeros),
-        sym (ap (λ x. stored x (b + i) (drop (512 * i) ds) m) zeros) ∙ a.blocks,
-      )
+  -- where no good block comes next, all that was to be written has been
+  pub along_end : (m : List Block) (i : ℕ) → good_run (n - i) (b + i) m ≡ 0 → Along m0 b n ds m i → (i ≡ good_run n b m0) × (m ≡ kept n b ds m0)
+  along_end m i none a = (omega (arith, a.moved, none), sym (ap (λ x. stored x (b + i) (drop (512 * i) ds) m) none) ∙ a.blocks)
 
 -- the next call, which writes `part`: refused, the transfer ends there; accepted, it goes on
 module _ (m0 : List Block) (b n : ℕ) (ds : List ℕ) (m : List Block) (i : ℕ) (part : List ℕ) (r : Result (Unit {0}) Fault)
@@ -75,10 +58,10 @@ module _ (m0 : List Block) (b n : ℕ) (ds : List ℕ) (m : List Block) (i : ℕ
   pub write_stops : is_err r ≡ true → (i ≡ good_run n b m0) × (written m (b + i) part ≡ kept n b ds m0)
   write_stops err =
       let f = err_of r err in
-      let e = along_bad m0 b n ds m i lt (bad_seen m (b + i) (length part) f.0 long (sym is ∙ f.1)) a in
+      let e = along_end m0 b n ds m i (run_bad m b n i lt (bad_seen m (b + i) (length part) f.0 long (sym is ∙ f.1))) a in
       (e.0, refused_write m (b + i) part f.0 (sym is ∙ f.1) ∙ e.1)
 
   pub write_goes_on : r ≡ Ok tt → part ≡ take 512 (drop (512 * i) ds) → Along m0 b n ds (written m (b + i) part) (i + 1)
   write_goes_on ok cut =
-      let g = good_there m (b + i) (length part) (sym is ∙ ok) in
+      let g = good_seen m (b + i) (length part) (sym is ∙ ok) in
       subst (λ (p : List ℕ). Along m0 b n ds (written m (b + i) p) (i + 1)) (sym cut) (along_more m0 b n ds m g.0 i lt g.1 a)

@@ -1,3 +1,4 @@
+pub mod Going
 pub mod Loading
 pub mod Keeping
 pub mod Failing

@@ -1,5 +1,6 @@
 // A unit's blocks between a medium and a buffer, one 512-byte part after another.
 // The medium's fault goes on by `?` to the transfer, which adds how far it came.
+// That the buffer has room is asked by name where it is needed: it is a fact of a span and a buffer, which the type of neither can say.
 ghost use Rattle.std.specs.Prelude.{◌≡◌, ◌+◌, ◌<◌, length, IfErr};
 ghost use Rattle.model.specs.Blocks.{answer, filled, written};
 ghost use Rattle.model.specs.Commands.{good_run};

@@ -29,7 +29,8 @@ fn live<M: Medium>(
 
 // Two sticks, each fitted, powered up and run through a history of its own, and both through further events: every event gets the reply
 // that is defined for it, and where both were handed the same further events, a Locked unit's secret shows in none of them.
-// The lists are lent one by one, since each is written to: behind a struct of them no clause could say what a list holds afterwards.
+// The lists are lent one by one, since each is written to: behind a struct of lent lists a clause would tell what they hold afterwards as nested
+// pairs, by no name, and a struct that owns them would ask callers to give theirs up.
 pub fn side_by_side<M: Medium, N: Medium>(
     first: M,
     first_layout: &[u8],

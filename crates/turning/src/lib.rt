@@ -13,6 +13,7 @@ use medium::MOST_BLOCKS;
 use medium::store::Store;
 
 // A page map of its own is no plainer: all facts but `full` speak of the number of blocks, which the map would keep a second time.
+// The pages stand in an array of a fixed size: fitting allocates nothing, and cannot fail.
 #[derive(Drop)]
 pub struct Turning {
     store: Store<1>,

@@ -69,7 +69,8 @@ impl Rows {
         ensures code { number_of result ≡ (if nat_lt index 16 then (turned negotiable (put_of put.entry) (slice_index_or self.old index new_unit)).code else refusal_number Absent) }
         ensures after { self.new ≡ alter index (λ u. (turned negotiable (put_of put.entry) u).after) self.old }
     {
-        // By index: of a row that a slice's get_mut lent, nothing is known afterwards.
+        // By index: of a row that a slice's get_mut lent, a proof knows nothing afterwards. One function over a closure, as interfaces have, is
+        // no plainer: it would have to ask of the closure that it keeps a row sound.
         if index < self.rows.len() {
             self.rows[index].put(put, negotiable)
         } else {
