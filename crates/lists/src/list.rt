@@ -1,0 +1,124 @@
+// A list of at most `N` elements in fixed memory: its value is the list of them.
+// What finds no room is left out, which each clause tells.
+ghost use Rattle.std.specs.Prelude.{◌≡◌, ◌<◌, ◌≤◌, [], ◌∷◌, ◌++◌, length, take, slice_set, cond, leb, Some, None, ⊤};
+
+use crate::blank::Blank;
+use std::alloc::AllocError;
+use std::marker::Model;
+use std::ops::DerefSlice;
+
+// The first `len` elements are the list; behind them all is blank, so that the list gives back its memory, and can be copied.
+#[derive(Copy)]
+pub struct FixedList<T: Blank, const N: usize> {
+    elements: [T; N],
+    len: usize,
+}
+
+impl<T: Blank, const N: usize> Model for FixedList<T, N> {
+    ghost use Rattle.std.specs.Prelude.{◌≡◌, ◌≤◌, ◌-◌, ◌++◌, List, length, take, drop, replicate};
+    ghost use Rattle.std.proofs.Common.{arith, sym, ap, ◌∙◌, take-append-drop, length-take-le};
+
+    ghost Value = { List T };
+
+    ghost view = { λ l. take l.len l.elements };
+
+    ghost invariant = { λ l. (l.len ≤ N) × (length l.elements ≡ N) × (drop l.len l.elements ≡ replicate (N - l.len) T.BLANK) };
+
+    ghost inverse = { λ xs. record { elements = xs ++ replicate (N - length xs) T.BLANK; len = length xs } };
+
+    ghost inverse_ok = { λ l h i. record {
+      elements = (ap (λ k. take l.len l.elements ++ replicate (N - k) T.BLANK) (length-take-le l.len l.elements (omega (arith, h.0, h.1)))
+      ∙ ap (λ rest. take l.len l.elements ++ rest) (sym h.2) ∙ take-append-drop l.len l.elements) i;
+      len = length-take-le l.len l.elements (omega (arith, h.0, h.1)) i;
+    } };
+}
+
+impl<T: Blank, const N: usize> Clone for FixedList<T, N> {
+    ghost is_clone = { λ list copy. copy ≡ list };
+
+    ghost is_infallible = { λ _. ⊤ };
+
+    fn clone(&self) -> Result<Self, AllocError> {
+        Ok(*self)
+    }
+}
+
+impl<T: Blank, const N: usize> FixedList<T, N> {
+    // No element.
+    pub fn new() -> Self
+        ensures { result ≡ [] }
+    {
+        FixedList {
+            elements: [T::BLANK; N],
+            len: 0,
+        }
+    }
+
+    // These elements, if there is room for all of them.
+    pub fn from_slice(elements: &[T]) -> Option<Self>
+        ensures { result ≡ cond (leb (length elements.now) N) (Some elements.now) None }
+    {
+        if elements.len() > N {
+            return None;
+        }
+        let mut list = Self::new();
+        list.extend(elements);
+        Some(list)
+    }
+
+    // The elements.
+    pub fn as_slice(&self) -> &[T]
+        ensures value { result.now ≡ self.now }
+        ensures fits { length result.now ≤ N }
+    {
+        &self.elements[..self.len]
+    }
+
+    // One element more, behind the others.
+    pub fn push(&mut self, element: T)
+        ensures { self.new ≡ take N (self.old ++ element ∷ []) }
+    {
+        if self.len < N {
+            self.elements[self.len] = element;
+            self.len += 1;
+        }
+    }
+
+    // More elements, behind the others.
+    pub fn extend(&mut self, more: &[T])
+        ensures { self.new ≡ take N (self.old ++ more.now) }
+    {
+        let room = N - self.len;
+        for element in &more[..more.len().min(room)] {
+            self.push(*element);
+        }
+    }
+
+    // The front of the list, no longer than `len`.
+    pub fn truncate(&mut self, len: usize)
+        ensures { self.new ≡ take len self.old }
+    {
+        let mut front = Self::new();
+        front.extend(&self.elements[..self.len.min(len)]);
+        *self = front;
+    }
+
+    // Another element in the place of one; past the end there is none.
+    pub fn set(&mut self, at: usize, element: T)
+        ensures { self.new ≡ slice_set self.old at element }
+    {
+        if at < self.len {
+            self.elements[at] = element;
+        }
+    }
+}
+
+impl<T: Blank, const N: usize> DerefSlice for FixedList<T, N> {
+    type Elem = T;
+
+    ghost deref_gives = { λ list elements. (elements ≡ list) × (length elements ≤ N) };
+
+    fn deref(&self) -> &[T] {
+        self.as_slice()
+    }
+}
