@@ -2,15 +2,15 @@
 // Callers see an answer as the list of its bytes.
 ghost use Rattle.std.specs.Prelude.{◌≡◌, ◌+◌, ◌≤◌, [], ◌++◌, length, take};
 
-use arrayvec::ArrayVec;
+use lists::list::FixedList;
 use std::marker::Model;
 
 // The longest answer of all is Lock Data with a hint of 100 bytes.
 pub const LONGEST_ANSWER: usize = 119;
 
-#[derive(Clone, Drop)]
+#[derive(Clone, Copy)]
 pub struct Answer {
-    bytes: ArrayVec<u8, LONGEST_ANSWER>,
+    bytes: FixedList<u8, LONGEST_ANSWER>,
 }
 
 impl Model for Answer {
@@ -18,7 +18,9 @@ impl Model for Answer {
 
     ghost Value = { List ℕ };
 
-    ghost view = { λ a. a.bytes.items };
+    ghost view = { λ a. a.bytes };
+
+    ghost inverse = { λ bytes. record { bytes = bytes } };
 }
 
 impl Answer {
@@ -27,7 +29,7 @@ impl Answer {
         ensures { result ≡ [] }
     {
         Answer {
-            bytes: ArrayVec::new(),
+            bytes: FixedList::new(),
         }
     }
 
@@ -36,7 +38,7 @@ impl Answer {
         requires { length self.old + length bytes.now ≤ LONGEST_ANSWER }
         ensures { self.new ≡ self.old ++ bytes.now }
     {
-        self.bytes.try_extend_from_slice(bytes).unwrap();
+        self.bytes.extend(bytes);
     }
 
     // The front of this answer, no more than was wanted.

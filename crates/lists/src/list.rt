@@ -1,6 +1,6 @@
 // A list of at most `N` elements in fixed memory: its value is the list of them.
 // What finds no room is left out, which each clause tells.
-ghost use Rattle.std.specs.Prelude.{◌≡◌, ◌<◌, ◌≤◌, [], ◌∷◌, ◌++◌, length, take, slice_set, cond, leb, Some, None, ⊤};
+ghost use Rattle.std.specs.Prelude.{◌≡◌, ◌+◌, ◌<◌, ◌≤◌, [], ◌∷◌, ◌++◌, length, take, slice_set, cond, leb, Some, None, ⊤};
 
 use crate::blank::Blank;
 use std::alloc::AllocError;
@@ -76,7 +76,8 @@ impl<T: Blank, const N: usize> FixedList<T, N> {
 
     // One element more, behind the others.
     pub fn push(&mut self, element: T)
-        ensures { self.new ≡ take N (self.old ++ element ∷ []) }
+        ensures value { self.new ≡ take N (self.old ++ element ∷ []) }
+        ensures whole { length self.old < N → self.new ≡ self.old ++ element ∷ [] }
     {
         if self.len < N {
             self.elements[self.len] = element;
@@ -86,7 +87,8 @@ impl<T: Blank, const N: usize> FixedList<T, N> {
 
     // More elements, behind the others.
     pub fn extend(&mut self, more: &[T])
-        ensures { self.new ≡ take N (self.old ++ more.now) }
+        ensures value { self.new ≡ take N (self.old ++ more.now) }
+        ensures whole { length self.old + length more.now ≤ N → self.new ≡ self.old ++ more.now }
     {
         let room = N - self.len;
         for element in &more[..more.len().min(room)] {

@@ -2,8 +2,8 @@ use Rattle.std.proofs.Common.{◌≡◌, ◌-◌, min, length, length-take, arit
 use Rattle.lists.proofs.Fronts.{take_fitting}
 use Rattle.lists.proofs.list.FixedList.extend.Goals as goal
 
-pub returns : goal.returns
-returns g c =
+pub returns-clause-value : goal.returns-clause-value
+returns-clause-value g c =
     let mine = c.args.self.now in
     let more = c.args.more.now in
     let room : c.min.result ≡ min (length more) (g.row.N - length mine) = search rules in
