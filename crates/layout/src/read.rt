@@ -1,15 +1,14 @@
 // Layout bytes: idVendor, product base, bcdDevice, the number of interfaces, a unit count for each, a place for each unit.
 // A layout that breaks a rule is refused by inspection, and fitted as a stick with no interface.
 ghost use Rattle.std.specs.Prelude.{◌≡◌, ◌*◌, ◌/◌, ◌≤◌, true, ◌&&◌, length, if◌then◌else◌, Ok, Err, IsTrue, nat_lt};
-ghost use Rattle.arrayvec.specs.ArrayVec.{array_vec_len};
 ghost use Rattle.model.specs.Bytes.{le32};
 ghost use Rattle.model.specs.Extents.{sound};
 ghost use Rattle.model.specs.Layouts.{place, place_start, place_count, pairs, sum, all_between, layout_rules, said_layout, no_layout, fitted_layout};
 
 use crate::places::units_of;
 use crate::table::Layout;
-use arrayvec::ArrayVec;
 use extents::is_sound;
+use lists::list::FixedList;
 use model::layout::Place;
 use model::limits::MOST_UNITS;
 use model::refusal::Refusal;
@@ -34,14 +33,13 @@ fn place_of(bytes: &[u8; PLACE_BYTES]) -> Place
 }
 
 // The places that the bytes say; bytes behind the last whole place say nothing.
-fn read_places(bytes: &[u8]) -> ArrayVec<Place, MOST_UNITS>
+fn read_places(bytes: &[u8]) -> FixedList<Place, MOST_UNITS>
     requires { length bytes.now / PLACE_BYTES ≤ MOST_UNITS }
-    ensures value { result.items ≡ pairs (length bytes.now / PLACE_BYTES) bytes.now }
-    ensures len { array_vec_len result ≡ length bytes.now / PLACE_BYTES }
+    ensures value { result ≡ pairs (length bytes.now / PLACE_BYTES) bytes.now }
+    ensures len { length result ≡ length bytes.now / PLACE_BYTES }
 {
     let (pairs, _) = bytes.as_chunks::<PLACE_BYTES>();
-    let mut places = ArrayVec::new();
-    // A chain into `extend` is no plainer: it could fail, and that would have to be ruled out.
+    let mut places = FixedList::new();
     for pair in pairs {
         places.push(place_of(pair));
     }
@@ -72,7 +70,7 @@ fn read_layout(bytes: &[u8], blocks: u32) -> Result<Layout, Refusal>
     if !are_served(counts) {
         return Err(Refusal::Layout);
     }
-    let unit_counts = ArrayVec::try_from(counts).map_err(|_| Refusal::Layout)?;
+    let unit_counts = FixedList::from_slice(counts).ok_or(Refusal::Layout)?;
     let unit_count = units_of(counts);
     let product_base = u16::from_le_bytes([*b0, *b1]);
     if product_base % PRODUCT_STEP != 0 || pairs.len() != PLACE_BYTES * unit_count {
@@ -107,8 +105,8 @@ impl Layout {
             vendor: 0,
             product_base: 0,
             release: 0,
-            unit_counts: ArrayVec::new(),
-            places: ArrayVec::new(),
+            unit_counts: FixedList::new(),
+            places: FixedList::new(),
         }
     }
 

@@ -4,18 +4,18 @@ ghost use Rattle.std.specs.Prelude.{◌≡◌, ◌%◌, ◌<◌, ◌≤◌, leng
 ghost use Rattle.model.specs.Bulk.{place_at};
 ghost use Rattle.model.specs.Layouts.{sum};
 
-use arrayvec::ArrayVec;
+use lists::list::FixedList;
 use model::layout::Place;
 use model::limits::{MOST_INTERFACES, MOST_UNITS};
 use std::marker::Model;
 
-#[derive(Clone, Drop)]
+#[derive(Clone, Copy)]
 pub struct Layout {
     pub vendor: u16,
     pub product_base: u16,
     pub release: u16,
-    pub unit_counts: ArrayVec<u8, MOST_INTERFACES>,
-    pub places: ArrayVec<Place, MOST_UNITS>,
+    pub unit_counts: FixedList<u8, MOST_INTERFACES>,
+    pub places: FixedList<Place, MOST_UNITS>,
 }
 
 // What the invariant bounds is said in clauses too: outside this crate a proof sees the value, and not what is behind it.
@@ -25,17 +25,17 @@ impl Model for Layout {
 
     ghost Value = { Tables };
 
-    ghost view = { λ l. layout l.vendor l.product_base l.release l.unit_counts.items l.places.items };
+    ghost view = { λ l. layout l.vendor l.product_base l.release l.unit_counts l.places };
 
-    ghost invariant = { λ l. (l.product_base % 16 ≡ 0) × (length l.places.items ≡ sum l.unit_counts.items)
-        × (length l.unit_counts.items ≤ 4) × (length l.places.items ≤ 16) };
+    ghost invariant = { λ l. (l.product_base % 16 ≡ 0) × (length l.places ≡ sum l.unit_counts)
+        × (length l.unit_counts ≤ 4) × (length l.places ≤ 16) };
 
     ghost inverse = { λ v. record {
       vendor = v.vendor;
       product_base = v.base;
       release = v.release;
-      unit_counts = record { items = v.counts };
-      places = record { items = v.places };
+      unit_counts = v.counts;
+      places = v.places;
     } };
 }
 

@@ -66,6 +66,14 @@ impl<T: Blank, const N: usize> FixedList<T, N> {
         Some(list)
     }
 
+    // How many elements there are.
+    pub fn len(&self) -> usize
+        ensures value { result ≡ length self.now }
+        ensures fits { result ≤ N }
+    {
+        self.len
+    }
+
     // The elements.
     pub fn as_slice(&self) -> &[T]
         ensures value { result.now ≡ self.now }

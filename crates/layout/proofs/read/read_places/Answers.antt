@@ -1,14 +1,12 @@
-use Rattle.std.proofs.Common.{◌++◌, ◌∷◌, [], ◌/◌, map, take, length, sym, ap, ◌∙◌, arith}
+use Rattle.std.proofs.Common.{◌++◌, ◌∷◌, [], ◌/◌, ◌<◌, map, take, length, sym, ap, ◌∙◌, arith}
 use Rattle.std.proofs.lemmas.List.{length-map, length-take, map_more, take_all}
 use Rattle.layout.proofs.Pairs.{place_in, pairs_in_chunks}
 use Rattle.layout.proofs.read.read_places.Goals as goal
 
-pub push-requires : goal.push-requires
-push-requires c = simp (c.loop-pair.invariant, length-map, length-take) (omega arith)
-
 pub loop-pair-preserved : goal.loop-pair-preserved
 loop-pair-preserved c =
-    c.push.ensures.items
+    let room : length c.loop-pair.places < 16 = simp (c.loop-pair.invariant, length-map, length-take) (omega arith) in
+    c.push.ensures.whole room
     ∙ ap (λ ps. ps ++ c.place_of.result ∷ []) c.loop-pair.invariant
     ∙ ap (λ p. map place_in (take c.loop-pair.pair-index c.as_chunks.result.0.now) ++ p ∷ []) c.place_of.ensures
     ∙ sym (map_more place_in c.as_chunks.result.0.now c.loop-pair.pair-index _ c.loop-pair-test.true)
