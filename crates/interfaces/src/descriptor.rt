@@ -1,11 +1,10 @@
 // The device descriptor and the bundle: the configuration descriptor with all its interfaces and endpoints.
 ghost use Rattle.std.specs.Prelude.{◌≡◌, ◌+◌, ◌<◌, ◌≤◌, ◌++◌, length};
-ghost use Rattle.arrayvec.specs.ArrayVec.{array_vec_len};
 ghost use Rattle.model.specs.Descriptors.{weighed, product_bits, device_descriptor, configuration, interface_piece, bundle};
 
 use crate::table::Interfaces;
-use arrayvec::ArrayVec;
 use layout::table::Layout;
+use lists::list::FixedList;
 use model::ids::{Ids, Interface};
 use model::limits::{BULK_ONLY, LOCKABLE, MOST_INTERFACES};
 
@@ -111,25 +110,17 @@ fn interface_piece(number: u8, ids: Ids) -> [u8; PIECE_BYTES]
     ]
 }
 
-// Appends a piece of a bundle, for which there is room. An answer has its like; neither crate knows of the other, and the body is the library's call.
-fn append(bundle: &mut ArrayVec<u8, LONGEST_BUNDLE>, piece: &[u8])
-    requires { array_vec_len bundle.old + length piece.now ≤ 113 }
-    ensures { bundle.new.items ≡ bundle.old.items ++ piece.now }
-{
-    bundle.try_extend_from_slice(piece).unwrap();
-}
-
 impl Interfaces {
     // The bundle of these interfaces.
-    pub fn bundle(&self) -> ArrayVec<u8, LONGEST_BUNDLE>
-        ensures { result.items ≡ bundle self.now }
+    pub fn bundle(&self) -> FixedList<u8, LONGEST_BUNDLE>
+        ensures { result ≡ bundle self.now }
     {
         let count = self.list.len();
         let total = CONFIGURATION_BYTES + PIECE_BYTES * count;
-        let mut bytes = ArrayVec::new();
-        append(&mut bytes, &configuration(total as u16, count as u8));
+        let mut bytes = FixedList::new();
+        bytes.extend(&configuration(total as u16, count as u8));
         for (i, interface) in self.list.iter().enumerate() {
-            append(&mut bytes, &interface_piece(i as u8, interface.ids));
+            bytes.extend(&interface_piece(i as u8, interface.ids));
         }
         bytes
     }

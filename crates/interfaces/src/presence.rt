@@ -17,8 +17,10 @@ impl Interfaces {
         ensures list { (f : Interface → Interface) → ((x y : Interface) → FnOnceReturnsAtMut F.FnOnce change x tt y → y ≡ f x) → self.new ≡ alter interface f self.old }
         ensures count { length self.new ≡ length self.old }
     {
-        if let Some(presented) = self.list.get_mut(usize::from(interface)) {
-            change(presented);
+        let at = usize::from(interface);
+        if let Some(mut presented) = self.list.get(at).copied() {
+            change(&mut presented);
+            self.list.set(at, presented);
         }
     }
 
@@ -43,8 +45,10 @@ impl Interfaces {
         ensures list { self.new ≡ map unjammed self.old }
         ensures count { length self.new ≡ length self.old }
     {
-        for interface in self.list.iter_mut() {
+        for at in 0..self.list.len() {
+            let mut interface = self.list[at];
             interface.jammed = false;
+            self.list.set(at, interface);
         }
     }
 

@@ -4,14 +4,14 @@ ghost use Rattle.std.specs.Prelude.{◌≡◌, ◌<◌, [], ◌∷◌, ◌++◌,
 ghost use Rattle.model.specs.Sticks.{interface as interface_with};
 ghost use Rattle.model.specs.declared.ids.Ids.TheVariants.{ScsiBbb};
 
-use arrayvec::ArrayVec;
+use lists::list::FixedList;
 use model::ids::{Ids, Interface};
 use model::limits::MOST_INTERFACES;
 use std::marker::Model;
 
-#[derive(Clone, Drop)]
+#[derive(Clone, Copy)]
 pub struct Interfaces {
-    pub list: ArrayVec<Interface, MOST_INTERFACES>,
+    pub list: FixedList<Interface, MOST_INTERFACES>,
 }
 
 impl Model for Interfaces {
@@ -20,9 +20,9 @@ impl Model for Interfaces {
 
     ghost Value = { List Interface };
 
-    ghost view = { λ t. t.list.items };
+    ghost view = { λ t. t.list };
 
-    ghost inverse = { λ xs. record { list = record { items = xs } } };
+    ghost inverse = { λ xs. record { list = xs } };
 }
 
 impl Interfaces {
@@ -31,7 +31,7 @@ impl Interfaces {
         ensures { result ≡ [] }
     {
         Interfaces {
-            list: ArrayVec::new(),
+            list: FixedList::new(),
         }
     }
 
@@ -39,9 +39,7 @@ impl Interfaces {
     pub fn push(&mut self, interface: Interface)
         ensures { self.new ≡ take 4 (self.old ++ interface ∷ []) }
     {
-        if !self.list.is_full() {
-            self.list.push(interface);
-        }
+        self.list.push(interface);
     }
 
     // What an interface presents; one that the stick has not is told as a new one.
