@@ -38,7 +38,7 @@ impl Answer {
         requires { length self.old + length bytes.now ≤ LONGEST_ANSWER }
         ensures { self.new ≡ self.old ++ bytes.now }
     {
-        self.bytes.extend(bytes);
+        self.bytes.extend_from_slice(bytes);
     }
 
     // The front of this answer, no more than was wanted.

@@ -118,9 +118,9 @@ impl Interfaces {
         let count = self.list.len();
         let total = CONFIGURATION_BYTES + PIECE_BYTES * count;
         let mut bytes = FixedList::new();
-        bytes.extend(&configuration(total as u16, count as u8));
+        bytes.extend_from_slice(&configuration(total as u16, count as u8));
         for (i, interface) in self.list.iter().enumerate() {
-            bytes.extend(&interface_piece(i as u8, interface.ids));
+            bytes.extend_from_slice(&interface_piece(i as u8, interface.ids));
         }
         bytes
     }

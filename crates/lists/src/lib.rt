@@ -1,6 +1,8 @@
 // Lists in fixed memory that can be copied.
-// The library's ArrayVec cannot, and answers, layouts and interfaces are plain data.
+// Answers, layouts and the interfaces of a stick are made of them.
 #![tactic(auto)]
 
 pub mod blank;
 pub mod list;
+#[cfg(test)]
+mod tests;

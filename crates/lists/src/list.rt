@@ -1,13 +1,13 @@
 // A list of at most `N` elements in fixed memory: its value is the list of them.
-// What finds no room is left out, which each clause tells.
-ghost use Rattle.std.specs.Prelude.{◌≡◌, ◌+◌, ◌<◌, ◌≤◌, [], ◌∷◌, ◌++◌, length, take, slice_set, cond, leb, Some, None, ⊤};
+// The library's ArrayVec cannot be copied; answers, layouts and the tables of interfaces are plain data, and can.
+ghost use Rattle.std.specs.Prelude.{◌≡◌, ◌+◌, ◌<◌, ◌≤◌, [], ◌∷◌, ◌++◌, length, take, slice_set, nat_lt, if◌then◌else◌, Some, None, ⊤};
 
 use crate::blank::Blank;
 use std::alloc::AllocError;
 use std::marker::Model;
 use std::ops::DerefSlice;
 
-// The first `len` elements are the list; behind them all is blank, so that the list gives back its memory, and can be copied.
+// The first `len` elements are the list. Behind them all is blank, so that the list tells what its memory holds: a copy needs that.
 #[derive(Copy)]
 pub struct FixedList<T: Blank, const N: usize> {
     elements: [T; N],
@@ -28,7 +28,7 @@ impl<T: Blank, const N: usize> Model for FixedList<T, N> {
 
     ghost inverse_ok = { λ l h i. record {
       elements = (ap (λ k. take l.len l.elements ++ replicate (N - k) T.BLANK) (length-take-le l.len l.elements (omega (arith, h.0, h.1)))
-      ∙ ap (λ rest. take l.len l.elements ++ rest) (sym h.2) ∙ take-append-drop l.len l.elements) i;
+          ∙ ap (λ rest. take l.len l.elements ++ rest) (sym h.2) ∙ take-append-drop l.len l.elements) i;
       len = length-take-le l.len l.elements (omega (arith, h.0, h.1)) i;
     } };
 }
@@ -56,13 +56,13 @@ impl<T: Blank, const N: usize> FixedList<T, N> {
 
     // These elements, if there is room for all of them.
     pub fn from_slice(elements: &[T]) -> Option<Self>
-        ensures { result ≡ cond (leb (length elements.now) N) (Some elements.now) None }
+        ensures { result ≡ (if nat_lt N (length elements.now) then None else Some elements.now) }
     {
         if elements.len() > N {
             return None;
         }
         let mut list = Self::new();
-        list.extend(elements);
+        list.extend_from_slice(elements);
         Some(list)
     }
 
@@ -71,7 +71,7 @@ impl<T: Blank, const N: usize> FixedList<T, N> {
         ensures value { result ≡ length self.now }
         ensures fits { result ≤ N }
     {
-        self.len
+        self.as_slice().len()
     }
 
     // The elements.
@@ -82,7 +82,7 @@ impl<T: Blank, const N: usize> FixedList<T, N> {
         &self.elements[..self.len]
     }
 
-    // One element more, behind the others.
+    // One element more, behind the others; a full list leaves it out.
     pub fn push(&mut self, element: T)
         ensures value { self.new ≡ take N (self.old ++ element ∷ []) }
         ensures whole { length self.old < N → self.new ≡ self.old ++ element ∷ [] }
@@ -93,27 +93,27 @@ impl<T: Blank, const N: usize> FixedList<T, N> {
         }
     }
 
-    // More elements, behind the others.
-    pub fn extend(&mut self, more: &[T])
+    // More elements, behind the others, as far as there is room.
+    pub fn extend_from_slice(&mut self, more: &[T])
         ensures value { self.new ≡ take N (self.old ++ more.now) }
         ensures whole { length self.old + length more.now ≤ N → self.new ≡ self.old ++ more.now }
     {
-        let room = N - self.len;
-        for element in &more[..more.len().min(room)] {
-            self.push(*element);
-        }
+        let fitting = more.len().min(N - self.len);
+        let end = self.len + fitting;
+        self.elements[..][self.len..end].copy_from_slice(&more[..fitting]);
+        self.len = end;
     }
 
-    // The front of the list, no longer than `len`.
+    // Keeps the front of the list, no longer than `len`.
     pub fn truncate(&mut self, len: usize)
         ensures { self.new ≡ take len self.old }
     {
         let mut front = Self::new();
-        front.extend(&self.elements[..self.len.min(len)]);
+        front.extend_from_slice(&self.elements[..self.len.min(len)]);
         *self = front;
     }
 
-    // Another element in the place of one; past the end there is none.
+    // Another element in the place of one; past the end there is nothing to replace.
     pub fn set(&mut self, at: usize, element: T)
         ensures { self.new ≡ slice_set self.old at element }
     {

@@ -1,8 +1,10 @@
-use Rattle.std.proofs.Common.{arith, length-set}
-use Rattle.lists.proofs.Fronts.{blank_less}
+use Rattle.std.proofs.Common.{◌+◌, ◌∙◌, arith, drop-set-lt, length-set}
+use Rattle.lists.proofs.Fronts.{blank_behind}
 use Rattle.lists.proofs.list.FixedList.push.Goals as goal
 
 pub invariant_of-self : goal.invariant_of-self
 invariant_of-self g c =
-    let inside = c.self.inside in
-    (omega arith, rw (length-set inside.elements inside.len c.args.element) c.self.invariant.1, blank_less inside.len g.row.N inside.elements g.T.Blank.BLANK c.args.element c.self.invariant.2)
+    let xs = c.self.inside.elements in
+    let n = c.self.inside.len in
+    let h = c.self.invariant in
+    (omega arith, length-set xs n c.args.element ∙ h.1, drop-set-lt (n + 1) xs n c.args.element (omega arith) ∙ blank_behind n 1 g.row.N xs g.T.Blank.BLANK h.2)
