@@ -7,4 +7,4 @@ invariant_of-self g c =
     let xs = c.self.inside.elements in
     let n = c.self.inside.len in
     let h = c.self.invariant in
-    (omega arith, length-set xs n c.args.element ∙ h.1, drop-set-lt (n + 1) xs n c.args.element (omega arith) ∙ blank_behind n 1 g.row.N xs g.T.Blank.BLANK h.2)
+    (omega arith, length-set xs n _ ∙ h.1, drop-set-lt (n + 1) xs n _ (omega arith) ∙ blank_behind n 1 g.row.N xs g.T.Blank.BLANK h.2)
