@@ -1,5 +1,5 @@
 // The device descriptor and the bundle: the configuration descriptor with all its interfaces and endpoints.
-ghost use Rattle.std.specs.Prelude.{◌≡◌, ◌+◌, ◌<◌, ◌≤◌, ◌++◌, length};
+ghost use Rattle.std.specs.Prelude.{◌≡◌, ◌<◌, ◌≤◌, length};
 ghost use Rattle.model.specs.Descriptors.{weighed, product_bits, device_descriptor, configuration, interface_piece, bundle};
 
 use crate::table::Interfaces;

@@ -1,5 +1,5 @@
 // Bytes at the front of a fixed array, with zeros behind them.
-// Not an ArrayVec: what lies behind the stored bytes is shown to be zeros, and a row of such arrays has no invariant of its own.
+// Not a list of `lists`: clauses show that zeros lie behind the stored bytes, and a row of such arrays has no invariant of its own.
 ghost use Rattle.std.specs.Prelude.{◌≡◌, ◌≤◌, true, length, replicate};
 
 #[derive(Clone, Copy)]
