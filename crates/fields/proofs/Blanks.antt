@@ -1,21 +1,21 @@
 -- How blanks part a text into words.
 use Rattle.std.proofs.Common.{◌≡◌, ℕ, ◌<◌, Bool, true, false, List, [], ◌∷◌, ◌++◌, length, sym, refl, ap, ◌∙◌, arith}
-use Rattle.std.specs.List.{AllByRecursion}
+use Rattle.std.specs.List.{AllByRecursion, onto_first}
 use Rattle.std.proofs.lemmas.Bool.{ne_eqb}
-use Rattle.fields.specs.Words.{is_blank, with_char, pieces, non_empty, words}
+use Rattle.fields.specs.Words.{is_blank, pieces, non_empty, words}
 use Rattle.fields.specs.Laws.{WordsArePartedByBlanks}
 use Rattle.fields.proofs.Cuts.{parted}
 
 -- a character goes to the first piece, whatever follows
-with_char_append : (c : ℕ) (cs : List ℕ) (ws : List (List ℕ)) → with_char c (pieces cs ++ ws) ≡ with_char c (pieces cs) ++ ws
-with_char_append c cs ws =
+onto_first_append : (c : ℕ) (cs : List ℕ) (ws : List (List ℕ)) → onto_first c (pieces cs ++ ws) ≡ onto_first c (pieces cs) ++ ws
+onto_first_append c cs ws =
     let p = (parted cs).first in
-    ap (λ ps. with_char c (ps ++ ws)) p ∙ sym (ap (λ ps. with_char c ps ++ ws) p)
+    ap (λ ps. onto_first c (ps ++ ws)) p ∙ sym (ap (λ ps. onto_first c ps ++ ws) p)
 
 pieces_parted_by : (c : ℕ) (cs after : List ℕ) (b : Bool) → is_blank c ≡ b → pieces (cs ++ (0x20 ∷ after)) ≡ pieces cs ++ pieces after
     → pieces (c ∷ (cs ++ (0x20 ∷ after))) ≡ pieces (c ∷ cs) ++ pieces after
 pieces_parted_by c cs after true e p = rw e (ap (λ ws. [] ∷ ws) p)
-pieces_parted_by c cs after false e p = rw e (ap (with_char c) p ∙ with_char_append c cs (pieces after))
+pieces_parted_by c cs after false e p = rw e (ap (onto_first c) p ∙ onto_first_append c cs (pieces after))
 
 pieces_parted : (before after : List ℕ) → pieces (before ++ (0x20 ∷ after)) ≡ pieces before ++ pieces after
 pieces_parted [] after = refl
@@ -33,7 +33,7 @@ pieces_whole : (word : List ℕ) → AllByRecursion (λ c. c ≡ 0x20 → ⊥) w
 pieces_whole [] all = refl
 pieces_whole (c ∷ cs) all =
     let dark : is_blank c ≡ false = ne_eqb c 0x20 all.0 in
-    rw dark (ap (with_char c) (pieces_whole cs all.1))
+    rw dark (ap (onto_first c) (pieces_whole cs all.1))
 
 pub words_whole : (word : List ℕ) → 0 < length word → AllByRecursion (λ c. c ≡ 0x20 → ⊥) word → words word ≡ word ∷ []
 words_whole [] some all = absurd (omega arith)

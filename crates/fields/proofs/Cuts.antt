@@ -1,11 +1,11 @@
 -- The first word of a text, cut off behind the blanks that lead it.
 use Rattle.std.proofs.Common.{◌≡◌, ℕ, zero, suc, ◌+◌, ◌<◌, ◌≤◌, Bool, true, false, cond, not, List, [], ◌∷◌, length, get_or, take, drop, Some, None, sym, refl, ap, ◌∙◌, one-add, arith}
-use Rattle.std.specs.List.{prefix_len, position, position_or_len}
+use Rattle.std.specs.List.{onto_first, prefix_len, position, position_or_len}
 use Rattle.std.proofs.lemmas.List.{at_drop_all}
 use Rattle.std.proofs.lemmas.List.Sums.{prefix_len-drop_yes}
 use Rattle.std.proofs.lemmas.Bool.{ne_eqb, both_ways}
 use Rattle.std.proofs.lemmas.Bool.Decides.{nat_tests}
-use Rattle.fields.specs.Words.{is_blank, in_word, with_char, pieces, non_empty, words}
+use Rattle.fields.specs.Words.{is_blank, in_word, pieces, non_empty, words}
 
 -- the first piece ends at the first blank
 pub record Parted (cs : List ℕ) (n : ℕ) : Type 0 where
@@ -19,7 +19,7 @@ parted_by c cs false e p =
     let n = prefix_len in_word cs in
     record {
       others = p.others;
-      first = rw (e, one-add n) (ap (with_char c) p.first);
+      first = rw (e, one-add n) (ap (onto_first c) p.first);
       rest = rw one-add p.rest;
     }
 

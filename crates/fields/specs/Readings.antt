@@ -13,7 +13,7 @@ wants_memory InterfaceWidth = false
 wants_memory ClockWidth = false
 wants_memory OutOfMemory = true
 
--- seen by `view`, the answer is the one that is due
-abbrev pub Reads : {T U : Type 0} → (T → U) → Result T LineError → Result U LineError → Type 0
-Reads view (Ok x) due = Ok (view x) ≡ due
-Reads view (Err e) due = wants_memory e ≡ false → Err e ≡ due
+-- seen by `view`, the answer is the one that is due; of an error that wants memory nothing is said
+abbrev pub Reads : {E T U : Type 0} → (E → Bool) → (T → U) → Result T E → Result U E → Type 0
+Reads of_memory view (Ok x) due = Ok (view x) ≡ due
+Reads of_memory view (Err e) due = of_memory e ≡ false → Err e ≡ due

@@ -1,5 +1,6 @@
 -- Words: a text split at blanks, with the empty pieces left out.
-use Rattle.std.specs.Prelude.{ℕ, Bool, cond, not, List, [], ◌∷◌, ◌==◌}
+use Rattle.std.specs.Prelude.{ℕ, Bool, not, List, [], ◌∷◌, ◌==◌}
+use Rattle.std.specs.List.{slice_split}
 
 abbrev pub is_blank : ℕ → Bool
 is_blank c = c == 0x20
@@ -7,15 +8,9 @@ is_blank c = c == 0x20
 abbrev pub in_word : ℕ → Bool
 in_word c = not (is_blank c)
 
--- a character more in front of the first piece
-abbrev pub with_char : ℕ → List (List ℕ) → List (List ℕ)
-with_char c [] = (c ∷ []) ∷ []
-with_char c (w ∷ ws) = (c ∷ w) ∷ ws
-
 -- what stands before, between and behind the blanks
 abbrev pub pieces : List ℕ → List (List ℕ)
-pieces [] = [] ∷ []
-pieces (c ∷ cs) = cond (is_blank c) ([] ∷ pieces cs) (with_char c (pieces cs))
+pieces cs = slice_split is_blank cs
 
 abbrev pub non_empty : List (List ℕ) → List (List ℕ)
 non_empty [] = []

@@ -2,7 +2,7 @@
 // Two digits are a byte, the high one first.
 ghost use Rattle.std.specs.Prelude.{◌≡◌, ◌<◌, ◌++◌, None, OnOk, vec_items, MatchOption};
 ghost use Rattle.fields.specs.Hexadecimal.{digit_value, byte_value, lone_digit, hex_bytes, hex_text};
-ghost use Rattle.fields.specs.Readings.{Reads};
+ghost use Rattle.fields.specs.Readings.{Reads, wants_memory};
 
 use crate::error::LineError;
 use std::alloc::{AllocError, Global};
@@ -24,8 +24,8 @@ pub fn digit(c: char) -> Option<u8>
 fn byte_of(high: u8, low: u8) -> Option<u8>
     ensures { result ≡ byte_value high low }
 {
-    let high = digit(high as char)?;
-    let low = digit(low as char)?;
+    let high = digit(char::from(high))?;
+    let low = digit(char::from(low))?;
     Some(16 * high + low)
 }
 
@@ -33,7 +33,7 @@ fn byte_of(high: u8, low: u8) -> Option<u8>
 fn lone_digit(c: u8) -> LineError
     ensures { result ≡ lone_digit (digit_value c) }
 {
-    match digit(c as char) {
+    match digit(char::from(c)) {
         None => LineError::NotHexadecimal,
         Some(_) => LineError::OddDigits,
     }
@@ -41,7 +41,7 @@ fn lone_digit(c: u8) -> LineError
 
 // The bytes that a field says. Not by `hex::decode`, which tells an odd length before a character that is no digit.
 pub fn read_field(heap: Global, field: &[u8]) -> Result<Vec<u8>, LineError>
-    ensures { Reads vec_items result (hex_bytes field.now) }
+    ensures { Reads wants_memory vec_items result (hex_bytes field.now) }
 {
     let mut bytes = Vec::new(heap);
     let mut rest = field;
@@ -62,4 +62,18 @@ pub fn push_hex(heap: Global, line: &mut Vec<u8>, bytes: &[u8]) -> Result<(), Al
 {
     line.extend_from_slice(hex::encode_upper(heap, bytes)?.as_bytes())?;
     Ok(())
+}
+
+#[cfg(test)]
+mod tests {
+    use super::*;
+    use std::test::Fail;
+
+    #[test]
+    fn pairs_follow_the_line(rt: HostRuntime) -> Result<(), Fail> {
+        let mut line = b"7 ".to_vec(rt.alloc())?;
+        push_hex(rt.alloc(), &mut line, &[0x0F, 0xA5])?;
+        assert_eq!(rt; line.as_slice(), b"7 0FA5".as_slice());
+        Ok(())
+    }
 }
