@@ -4,7 +4,7 @@ ghost use Rattle.std.specs.Prelude.{◌≡◌, [], OnOk};
 ghost use Rattle.std.specs.Option.{option_map};
 ghost use Rattle.events.specs.Happenings.{event_of};
 ghost use Rattle.fields.specs.Words.{words};
-ghost use Rattle.fields.specs.Readings.{Reads};
+ghost use Rattle.fields.specs.Readings.{Reads, wants_memory};
 ghost use Rattle.lines.specs.Lines.{end_said, optional, control_said, interface_said, bulk_said, milliseconds_said, clock_said, plain_said, event_said, line_said};
 
 use events::Event;
@@ -23,7 +23,7 @@ fn ended(fields: &[u8]) -> Result<(), LineError>
 
 // The last field of an event that may be left out; it is empty then.
 fn optional_field(fields: &[u8]) -> Result<&[u8], LineError>
-    ensures { Reads (λ x. x.now) result (optional (words fields.now)) }
+    ensures { Reads wants_memory (λ x. x.now) result (optional (words fields.now)) }
 {
     let Some((field, rest)) = first_word(fields) else {
         return Ok(&[]);
@@ -34,7 +34,7 @@ fn optional_field(fields: &[u8]) -> Result<&[u8], LineError>
 
 // `C setup [data]`
 fn read_control(heap: Global, fields: &[u8]) -> Result<Event, LineError>
-    ensures { Reads event_of result (control_said (words fields.now)) }
+    ensures { Reads wants_memory event_of result (control_said (words fields.now)) }
 {
     let (setup, rest) = first_word(fields).ok_or(LineError::MissingField)?;
     let data = optional_field(rest)?;
@@ -45,7 +45,7 @@ fn read_control(heap: Global, fields: &[u8]) -> Result<Event, LineError>
 
 // The interface, which is one byte.
 fn read_interface(heap: Global, field: &[u8]) -> Result<u8, LineError>
-    ensures { Reads (λ i. i) result (interface_said field.now) }
+    ensures { Reads wants_memory (λ i. i) result (interface_said field.now) }
 {
     match read_field(heap, field)?.as_slice() {
         [interface] => Ok(*interface),
@@ -55,7 +55,7 @@ fn read_interface(heap: Global, field: &[u8]) -> Result<u8, LineError>
 
 // `B interface cbw [data]`
 fn read_bulk(heap: Global, fields: &[u8]) -> Result<Event, LineError>
-    ensures { Reads event_of result (bulk_said (words fields.now)) }
+    ensures { Reads wants_memory event_of result (bulk_said (words fields.now)) }
 {
     let (interface, rest) = first_word(fields).ok_or(LineError::MissingField)?;
     let (cbw, rest) = first_word(rest).ok_or(LineError::MissingField)?;
@@ -72,7 +72,7 @@ fn read_bulk(heap: Global, fields: &[u8]) -> Result<Event, LineError>
 
 // The clock, which is eight digits, the highest first.
 fn read_milliseconds(heap: Global, field: &[u8]) -> Result<u32, LineError>
-    ensures { Reads (λ n. n) result (milliseconds_said field.now) }
+    ensures { Reads wants_memory (λ n. n) result (milliseconds_said field.now) }
 {
     match read_field(heap, field)?.as_slice() {
         [a, b, c, d] => Ok(u32::from_be_bytes([*a, *b, *c, *d])),
@@ -82,7 +82,7 @@ fn read_milliseconds(heap: Global, field: &[u8]) -> Result<u32, LineError>
 
 // `T dddddddd`
 fn read_clock(heap: Global, fields: &[u8]) -> Result<Event, LineError>
-    ensures { Reads event_of result (clock_said (words fields.now)) }
+    ensures { Reads wants_memory event_of result (clock_said (words fields.now)) }
 {
     let (clock, rest) = first_word(fields).ok_or(LineError::MissingField)?;
     ended(rest)?;
@@ -92,7 +92,7 @@ fn read_clock(heap: Global, fields: &[u8]) -> Result<Event, LineError>
 
 // An event that has no field.
 fn read_plain(event: Event, fields: &[u8]) -> Result<Event, LineError>
-    ensures { Reads event_of result (plain_said (event_of event) (words fields.now)) }
+    ensures { Reads wants_memory event_of result (plain_said (event_of event) (words fields.now)) }
 {
     ended(fields)?;
     Ok(event)
@@ -100,7 +100,7 @@ fn read_plain(event: Event, fields: &[u8]) -> Result<Event, LineError>
 
 // The event of a letter, with the fields that follow it.
 fn read_event(heap: Global, letter: char, fields: &[u8]) -> Result<Event, LineError>
-    ensures { Reads event_of result (event_said letter (words fields.now)) }
+    ensures { Reads wants_memory event_of result (event_said letter (words fields.now)) }
 {
     match letter {
         'C' => read_control(heap, fields),
@@ -117,13 +117,13 @@ fn read_event(heap: Global, letter: char, fields: &[u8]) -> Result<Event, LineEr
 
 // The event that a line says, none where it is blank; its newline is not part of it.
 pub fn read_line(heap: Global, line: &[u8]) -> Result<Option<Event>, LineError>
-    ensures { Reads (option_map event_of) result (line_said line.now) }
+    ensures { Reads wants_memory (option_map event_of) result (line_said line.now) }
 {
     let Some((word, fields)) = first_word(line) else {
         return Ok(None);
     };
     match word {
-        [letter] => Ok(Some(read_event(heap, *letter as char, fields)?)),
+        [letter] => Ok(Some(read_event(heap, char::from(*letter), fields)?)),
         _ => Err(LineError::UnknownLetter),
     }
 }

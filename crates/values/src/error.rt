@@ -24,6 +24,7 @@ pub enum Mistake {
 }
 
 // Written by hand, as `From` below: a derive states neither the text nor which mistake a `?` makes, and contracts name both.
+// No macro of the repository's own may write them either: the gate refuses an impl that one writes.
 impl fmt::Display for Mistake {
     ghost output = { λ m. Some (message_text m) };
 

@@ -1,6 +1,7 @@
 // Bad runs: pairs of a start and a length, with commas between them.
 ghost use Rattle.std.specs.Prelude.{◌≡◌, [], ◌∷◌, vec_items, MatchOption};
-ghost use Rattle.values.specs.Mistakes.{Reads};
+ghost use Rattle.fields.specs.Readings.{Reads};
+ghost use Rattle.values.specs.Mistakes.{is_memory};
 ghost use Rattle.values.specs.Runs.{pieces, pair_said, runs_said};
 
 use crate::decimal::read_decimal;
@@ -37,7 +38,7 @@ fn read_pair(text: &[u8]) -> Option<BadRun>
 
 // `START:LENGTH,START:LENGTH`, at least one.
 pub fn read_runs(heap: Global, text: &[u8]) -> Result<Vec<BadRun>, Mistake>
-    ensures { Reads vec_items result (runs_said text.now) }
+    ensures { Reads is_memory vec_items result (runs_said text.now) }
 {
     let mut runs = Vec::new(heap);
     for pair in text.split(|c| *c == COMMA) {
