@@ -2,7 +2,8 @@
 // What is not given is the bench's own.
 ghost use Rattle.std.specs.Prelude.{◌≡◌, map, IfOk, string_bytes};
 ghost use Rattle.options.specs.Choices.{choice_of, fit_of, nothing, filled, choices_said, fit_said};
-ghost use Rattle.values.specs.Mistakes.{Reads};
+ghost use Rattle.fields.specs.Readings.{Reads};
+ghost use Rattle.values.specs.Mistakes.{is_memory};
 
 use crate::choice::{Chosen, Fit, Make};
 use crate::set::lone;
@@ -42,7 +43,7 @@ impl Chosen {
 }
 
 fn choose(heap: Global, words: &[String]) -> Result<Chosen, Mistake>
-    ensures { Reads choice_of result (choices_said (map string_bytes words.now) nothing) }
+    ensures { Reads is_memory choice_of result (choices_said (map string_bytes words.now) nothing) }
 {
     let mut chosen = Chosen::default();
     let mut rest = words;
@@ -59,7 +60,7 @@ fn choose(heap: Global, words: &[String]) -> Result<Chosen, Mistake>
 
 // The stick that the arguments behind the program's name say.
 pub fn read_options(heap: Global, words: &[String]) -> Result<Fit, Mistake>
-    ensures { Reads fit_of result (fit_said (map string_bytes words.now)) }
+    ensures { Reads is_memory fit_of result (fit_said (map string_bytes words.now)) }
 {
     let chosen = choose(heap, words)?;
     Ok(chosen.filled(heap)?)

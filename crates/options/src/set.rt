@@ -4,7 +4,8 @@ ghost use Rattle.std.specs.Prelude.{◌≡◌, true, Some, None, Ok, Err, is_som
 ghost use Rattle.options.specs.Choices.{choice_of, formed, in_hex, name_said, lone_word, named};
 ghost use Rattle.fields.specs.Hexadecimal.{hex_bytes};
 ghost use Rattle.values.specs.Decimals.{decimal_said};
-ghost use Rattle.values.specs.Mistakes.{Reads};
+ghost use Rattle.fields.specs.Readings.{Reads};
+ghost use Rattle.values.specs.Mistakes.{is_memory};
 ghost use Rattle.values.specs.declared.error.Mistake.TheVariants.{RepeatedOption};
 
 use crate::choice::{Chosen, Make, Name};
@@ -61,7 +62,7 @@ pub(crate) fn lone(word: &str) -> Mistake
 
 // The bytes of a layout.
 fn read_layout(heap: Global, value: &str) -> Result<Vec<u8>, Mistake>
-    ensures { Reads vec_items result (in_hex (hex_bytes value.now)) }
+    ensures { Reads is_memory vec_items result (in_hex (hex_bytes value.now)) }
 {
     Ok(read_field(heap, value.as_bytes())?)
 }
@@ -94,7 +95,7 @@ fn set_once<T: Drop, F: FnOnce() -> Result<T, Mistake>>(
 impl Chosen {
     // An argument and the one behind it.
     pub(crate) fn take(&mut self, heap: Global, word: &str, value: &str) -> Result<(), Mistake>
-        ensures said { Reads (λ _. choice_of self.new) result (named (name_said word.now) value.now (choice_of self.old)) }
+        ensures said { Reads is_memory (λ _. choice_of self.new) result (named (name_said word.now) value.now (choice_of self.old)) }
         ensures kept { OnErr result (choice_of self.new ≡ choice_of self.old) }
     {
         match word.parse()? {
