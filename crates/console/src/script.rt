@@ -1,5 +1,17 @@
 // A script served to a stick, from line to event to record.
 // Each record is written before the next line is read.
+ghost use Rattle.std.specs.Prelude.{◌≡◌, true, [], ◌∷◌, ◌++◌, IfOk, IfSome};
+ghost use Rattle.std.specs.Fn.{FnReturnsAt};
+ghost use Rattle.std.specs.List.{AllByRecursion};
+ghost use Rattle.std.specs.Str.Lines.{lines};
+ghost use Rattle.model.specs.Events.{step};
+ghost use Rattle.events.specs.Happenings.{event_of};
+ghost use Rattle.stick.specs.Meaning.{stick_of};
+ghost use Rattle.lines.specs.Lines.{line_said};
+ghost use Rattle.record.specs.Buffers.{handed_event};
+ghost use Rattle.record.specs.Replies.{reply_line};
+ghost use Rattle.console.specs.Scripts.{IsServed, stick_after};
+
 use crate::serving::serve_lines;
 use anyhow::anyhow;
 use events::Event;
@@ -7,26 +19,31 @@ use lines::line::read_line;
 use medium::Medium;
 use record::buffer::handed;
 use record::turn::turn_line;
+use std::alloc::{AllocError, Global};
 use std::io::Read;
 use stick::stick::Running;
 use trial::run::take_turn;
 use trial::turn::Turn;
 
-// Performs an event and writes its record.
-fn answer<R: Print + AllocGlobal, M: Medium + Drop>(
-    rt: &R,
+// Performs an event: the stick afterwards, and the record of its reply with the newline.
+fn answered<M: Medium + Drop>(
+    heap: Global,
     stick: Running<M>,
     event: Event,
-) -> anyhow::Result<Running<M>> {
-    let event = handed(rt.alloc(), event)?;
+) -> Result<(Running<M>, Vec<u8>), AllocError>
+    ensures next { IfOk result (λ p. stick_of M.meaning p.0 ≡ (step stick.layout (stick_of M.meaning stick) (handed_event (event_of event))).next) }
+    ensures record { IfOk result (λ p. p.1.items ≡ reply_line (step stick.layout (stick_of M.meaning stick) (handed_event (event_of event))).reply ++ 0x0A ∷ []) }
+    ensures layout { IfOk result (λ p. p.0.layout ≡ stick.layout) }
+{
+    let event = handed(heap, event)?;
     let mut turn = Turn::new(event);
     let stick = take_turn(stick, &mut turn);
-    let mut record = turn_line(rt.alloc(), &turn)?;
+    let mut record = turn_line(heap, &turn)?;
     record.push(b'\n')?;
-    rt.write_all(record.as_slice())?;
-    Ok(stick)
+    Ok((stick, record))
 }
 
+// Performs the event of a line, and writes its record.
 fn serve_line<R, M, F>(
     rt: &R,
     stick: Running<M>,
@@ -38,10 +55,17 @@ where
     M: Medium + Drop,
     F: Fn(&Event) -> bool,
     requires { F.IsAlwaysCallable serves.now }
+    ensures served { IfOk result (λ _. IsServed (λ h. (e : _) × (event_of e ≡ h) × FnReturnsAt F.Fn serves.now e true) (line_said line.now)) }
+    ensures next { IfOk result (λ t. stick_of M.meaning t ≡ stick_after stick.layout (stick_of M.meaning stick) (line_said line.now)) }
+    ensures layout { IfOk result (λ t. t.layout ≡ stick.layout) }
 {
     match read_line(rt.alloc(), line)? {
         None => Ok(stick),
-        Some(event) if serves(&event) => answer(rt, stick, event),
+        Some(event) if serves(&event) => {
+            let (stick, record) = answered(rt.alloc(), stick, event)?;
+            rt.write_all(record.as_slice())?;
+            Ok(stick)
+        }
         Some(_) => Err(anyhow!("this event is not served yet")),
     }
 }
@@ -60,9 +84,36 @@ where
     M: Medium + Drop,
     F: Fn(&Event) -> bool + Drop,
     requires { F.IsAlwaysCallable serves }
+    ensures { IfOk result (λ ended. ended ≡ true → IfSome (B.remaining source) (λ xs. AllByRecursion (λ line. IsServed (λ h. (e : _) × (event_of e ≡ h) × FnReturnsAt F.Fn serves e true) (line_said line)) (lines xs))) }
 {
     let served = serve_lines(rt, source, "", stick, |stick, _, line| {
         serve_line(rt, stick, line, &serves)
     })?;
     Ok(served.is_some())
+}
+
+#[cfg(test)]
+mod tests {
+    use super::*;
+    use medium::{Fitted, PAGE};
+    use options::read::{OWN_BLOCKS, OWN_LAYOUT};
+    use std::test::Fail;
+    use stick::stick::power::start;
+    use straight::Straight;
+
+    fn own_stick(heap: Global) -> Result<Running<Straight>, AllocError> {
+        let memory = vec![in heap; 0u8; PAGE * OWN_BLOCKS as usize]?;
+        Ok(start(Straight::fit(memory, Vec::new(heap)), &OWN_LAYOUT))
+    }
+
+    #[test]
+    fn ends_at_what_is_not_served(rt: HostRuntime) -> Result<(), Fail> {
+        let script = "W\n\nT 00000001\n".as_bytes();
+        let all = serve_script(&rt, script, own_stick(rt.alloc())?, |_| true);
+        assert!(rt; matches!(&all, Ok(true)));
+        let work = |event: &Event| matches!(event, Event::Work);
+        let some = serve_script(&rt, script, own_stick(rt.alloc())?, work);
+        assert!(rt; matches!(&some, Ok(false)));
+        Ok(())
+    }
 }

@@ -1,6 +1,8 @@
 // Lines of a script, each served before the next is read.
 // What serving a line keeps, serving them all keeps.
 ghost use Rattle.std.specs.Prelude.{◌≡◌, ℕ, Bool, true, Ok, IfOk, IfSome};
+ghost use Rattle.std.specs.Str.Lines.{lines};
+ghost use Rattle.console.specs.Turns.{EachServed};
 
 use std::io::{BufRead, BufReader, Read};
 
@@ -19,7 +21,8 @@ where
     S: Drop,
     F: Fn(S, u64, &[u8]) -> anyhow::Result<S>,
     requires { F.IsAlwaysCallable serve }
-    ensures { (p : S → Bool) → p state ≡ true → ((s : S) (n : ℕ) (line : _) (t : S) → p s ≡ true → F.post serve s n line (Ok t) → p t ≡ true) → IfOk result (λ o. IfSome o (λ t. p t ≡ true)) }
+    ensures kept { (p : S → Bool) → p state ≡ true → ((s : S) (n : ℕ) (line : _) (t : S) → p s ≡ true → F.post serve s n line (Ok t) → p t ≡ true) → IfOk result (λ o. IfSome o (λ t. p t ≡ true)) }
+    ensures each { IfOk result (λ o. IfSome o (λ t. IfSome (B.remaining source) (λ xs. EachServed (F.post serve) state (lines xs) t))) }
 {
     let mut number = 0u64;
     for line in BufReader::new(rt.alloc(), source)?.lines(rt.alloc()) {

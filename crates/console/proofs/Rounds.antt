@@ -1,0 +1,64 @@
+-- Lines served so far, and the bytes that are left to be read.
+use Rattle.std.proofs.Common.{◌≡◌, ℕ, ◌<◌, List, [], ◌∷◌, length, Some, None, Ok, Option, Result, Bool, true, false, is_some, Bor, IfSome, sym, refl, ap, subst, ◌∙◌}
+use Rattle.std.specs.Bool.{⊤}
+use Rattle.std.specs.List.{AllByRecursion}
+use Rattle.std.specs.Str.Lines.{lines}
+use Rattle.std.specs.Io.BufRead.{drop_through, first_line, DropsThrough}
+use Rattle.std.specs.Io.KnownBytes.{IsAtEnd, prepend_known}
+use Rattle.console.specs.Turns.{next_number, Serves, EachServed}
+use Rattle.console.proofs.Firsts.{lines_first}
+
+-- a line that was read is the first of those that were left
+abbrev pub Took : Option (List ℕ) → Option (List ℕ) → List ℕ → Type 0
+Took left more line = IfSome left (λ ys. (0 < length ys) × (line ≡ first_line ys)) × DropsThrough left more 10
+
+same_bytes : (xs ys : List ℕ) → ◌≡◌ {A = Option (List ℕ)} (Some xs) (Some ys) → xs ≡ ys
+same_bytes xs ys e = cc
+
+module _ {S E : Type 0} (post : S → ℕ → Bor (List ℕ) → Result S E → Type 0) (start : S) where
+  -- what the lines that are left make of the state now, all lines make of the start
+  abbrev pub Leads : Option (List ℕ) → ℕ → S → Option (List ℕ) → Type 0
+  Leads None n s left = ⊤
+  Leads (Some xs) n s left = (ys : List ℕ) × (left ≡ Some ys) × ((t : S) → Serves post n s (lines ys) t → Serves post 0 start (lines xs) t)
+
+  pub led_start : (known left : Option (List ℕ)) → left ≡ prepend_known [] known → Leads known 0 start left
+  led_start None left e = tt
+  led_start (Some xs) left e = (xs, e, λ t h. h)
+
+  pub led_more : (known left more : Option (List ℕ)) (n k : ℕ) (s u : S) (line : List ℕ) (shown : Bor (List ℕ)) → Leads known n s left → Took left more line
+      → k ≡ next_number n → shown.now ≡ line → post s k shown (Ok u) → Leads known k u more
+  led_more None left more n k s u line shown l y e same said = tt
+  led_more (Some xs) None more n k s u line shown l y e same said = let f = l.1 in cc
+  led_more (Some xs) (Some zs) more n k s u line shown l y e same said =
+      let due = sym (lines_first zs y.0.0) ∙ ap lines (same_bytes zs l.0 l.1) in (
+        drop_through 10 zs,
+        y.1,
+        λ t h. l.2 t
+            (subst (λ ls. Serves post n s ls t) due (
+              u,
+              shown,
+              same ∙ y.0.1,
+              subst (λ j. post s j shown (Ok u)) e said,
+              subst (λ j. Serves post j u (lines (drop_through 10 zs)) t) e h,
+            )),
+      )
+
+  pub led_end : (known left : Option (List ℕ)) (n : ℕ) (s : S) → Leads known n s left → IsAtEnd left → IfSome known (λ xs. EachServed post start (lines xs) s)
+  led_end None left n s l e = tt
+  led_end (Some xs) None n s l e = let f = l.1 in cc
+  led_end (Some xs) (Some zs) n s l e =
+      record { turns = l.2 s (subst (λ v. Serves post n s (lines v) s) (sym e ∙ same_bytes zs l.0 l.1) refl) }
+
+module _ {S E : Type 0} (post : S → ℕ → Bor (List ℕ) → Result S E → Type 0) where
+  pub each_holds : (P : List ℕ → Type 0) (n : ℕ) (s t : S) (ls : List (List ℕ))
+      → ((v : S) (k : ℕ) (shown : Bor (List ℕ)) (u : S) → post v k shown (Ok u) → P shown.now) → Serves post n s ls t → AllByRecursion P ls
+  each_holds P n s t [] f h = tt
+  each_holds P n s t (line ∷ more) f h =
+      (subst P h.2 (f s (next_number n) h.1 h.0 h.3), each_holds P (next_number n) h.0 t more f h.4)
+
+pub all_served : {S E : Type 0} (post : S → ℕ → Bor (List ℕ) → Result S E → Type 0) (P : List ℕ → Type 0) (known : Option (List ℕ)) (start : S)
+    (served : Option S) → is_some served ≡ true → IfSome served (λ t. IfSome known (λ xs. EachServed post start (lines xs) t))
+    → ((v : S) (k : ℕ) (shown : Bor (List ℕ)) (u : S) → post v k shown (Ok u) → P shown.now) → IfSome known (λ xs. AllByRecursion P (lines xs))
+all_served post P known start None e h f = absurd (let z : ◌≡◌ {A = Bool} false true = e in cc)
+all_served post P None start (Some t) e h f = tt
+all_served post P (Some xs) start (Some t) e h f = each_holds post P 0 start t (lines xs) f h.turns

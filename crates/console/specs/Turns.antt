@@ -1,0 +1,17 @@
+-- Lines served in turn, each with its number.
+use Rattle.std.specs.Prelude.{◌≡◌, ℕ, ◌+◌, ◌-◌, ◌^◌, min, List, [], ◌∷◌, Ok, Result}
+use Rattle.std.specs.Borrow.{Bor}
+
+-- the number of the next line, as 64 bits hold it
+abbrev pub next_number : ℕ → ℕ
+next_number n = min (n + 1) (2 ^ 64 - 1)
+
+-- calls that answer by `post`, one for each line, took one state to another; the first line comes behind the number n
+abbrev pub Serves : {S E : Type 0} → (S → ℕ → Bor (List ℕ) → Result S E → Type 0) → ℕ → S → List (List ℕ) → S → Type 0
+Serves post n s [] t = s ≡ t
+Serves {S} post n s (line ∷ more) t =
+    (u : S) × (shown : Bor (List ℕ)) × (shown.now ≡ line) × post s (next_number n) shown (Ok u) × Serves post (next_number n) u more t
+
+-- each line was served once, the first with the number 1
+pub record EachServed {S E : Type 0} (post : S → ℕ → Bor (List ℕ) → Result S E → Type 0) (start : S) (ls : List (List ℕ)) (end : S) : Type 0 where
+  pub turns : Serves post 0 start ls end
