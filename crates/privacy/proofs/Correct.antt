@@ -80,11 +80,11 @@ judged_open n p x e m =
     rw e (rw ok (refl, refl))
 
 pub correct_opens : CorrectOpens
-correct_opens lay m h i k u p ready found l few =
+correct_opens lay m h i k x u p ready found l few =
     let s = after lay m h in
     let short : length p ≤ 50 = subst (λ (st : Standing). length (Rattle.privacy.specs.Claims.phrase_of st) ≤ 50) l (stays_within lay m h u).phrase in
     let n = is_negotiable (interface_at i s).ids in
-    let setup = 0x21 ∷ 0xFC ∷ 0x02 ∷ k ∷ i ∷ 0x00 ∷ (length p + 3) ∷ 0x00 ∷ [] in
+    let setup = 0x21 ∷ 0xFC ∷ 0x02 ∷ k ∷ i ∷ x ∷ (length p + 3) ∷ 0x00 ∷ [] in
     let e : served lay setup (data_of p) s ≡ put_to_unit (Some u) n (match (Some p)) s =
     ap (λ ph. when_present ph s (asked lay (requested setup) (data_of p) s)) ready
     ∙ ap₂ (λ f q. put_to_unit f n q s) found (sized_read p short (length p + 3 + 256 * 0) (omega arith)) in

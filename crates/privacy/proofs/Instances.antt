@@ -6,6 +6,7 @@ use Rattle.privacy.specs.Instances.{Instances}
 pub instances : Instances
 unfolding but
 instances = record {
+  sizes = (refl, refl);
   fitted = refl;
   fitting = (refl, refl);
   first_phrase = refl;

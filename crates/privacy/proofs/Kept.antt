@@ -25,7 +25,8 @@ use Rattle.model.specs.declared.ids.Phase.TheVariants as phase
 use Rattle.model.specs.declared.request.Asked.{Asked}
 use Rattle.model.specs.declared.request.Request.{Request}
 use Rattle.model.specs.declared.request.Request.TheVariants.{DeviceDescriptor, Bundle, LockData, HighestUnit, ClearJam, PutTo}
-use Rattle.privacy.specs.Causes.{is_bad_block, MarksKept, MarksStay, write_for, Holds, Touches, by_write, by_recovery, BlocksStay, UnitBlocksStay, OnMedium}
+use Rattle.privacy.specs.Claims.{is_bad_block}
+use Rattle.privacy.specs.Causes.{MarksKept, MarksStay, write_for, Holds, Touches, by_write, by_recovery, BlocksStay, UnitBlocksStay, OnMedium}
 use Rattle.privacy.proofs.Lists.{zeroed_getD, length_zeroed}
 use Rattle.privacy.proofs.Places.{Disjoint, fit_disjoint, held_below}
 use Rattle.privacy.proofs.Respects.{zeroed_in, where_is}

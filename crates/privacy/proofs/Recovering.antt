@@ -1,5 +1,5 @@
 -- A unit is recovering only when that was asked for, and ends as Lock Data report.
-use Rattle.std.proofs.Common.{◌≡◌, ℕ, zero, suc, ◌+◌, ◌-◌, ◌*◌, ◌/◌, ◌<◌, ◌≤◌, min, Bool, true, false, cond, not, ◌&&◌, eqb, ltb, leb, ◌⊎◌, List, [], ◌∷◌, length, get_or, Option, sym, refl, ap, ◌∙◌, subst, ap₂, subst₂, inl, inr, ⊎_elim, arith}
+use Rattle.std.proofs.Common.{◌≡◌, ℕ, zero, suc, ◌+◌, ◌-◌, ◌*◌, ◌/◌, ◌%◌, ◌<◌, ◌≤◌, min, Bool, true, false, cond, not, ◌&&◌, eqb, ltb, leb, ◌⊎◌, List, [], ◌∷◌, length, get_or, Option, sym, refl, ap, ◌∙◌, subst, ap₂, subst₂, inl, inr, ⊎_elim, arith}
 use Rattle.std.proofs.lemmas.Bool.{true≢false, false≢true, cases_eq, cases_lt, cases_Bool, and_from, both_ways, eq-eqb, ne_eqb, eqb-true, leb-false, lt-ltb, le-leb, lt-leb, ltb-false, and_parts, and_right, not-true}
 use Rattle.std.specs.declared.option.Option.TheVariants as option
 use Rattle.model.specs.Blocks.{Block, bad, good}
@@ -20,7 +20,7 @@ use Rattle.model.specs.declared.request.Request.{Request}
 use Rattle.model.specs.declared.request.Request.TheVariants.{DeviceDescriptor, Bundle, LockData, HighestUnit, ClearJam, PutTo}
 use Rattle.model.specs.LockData.{steps_for, completing}
 use Rattle.privacy.specs.Claims.{but, completes, is_unit, asks_put, asked_put, accepts}
-use Rattle.privacy.specs.Causes.{falls_to, Holds, forgetting, one_more, steps_since, is_work, reported, IsZeros, Recovers, RecoversAsReported, CompletesInLast, fallen, LastsAsReported, WipesInOrder}
+use Rattle.privacy.specs.Causes.{falls_to, Holds, forgetting, one_more, steps_since, is_work, reported, LockDataReports, IsZeros, Recovers, RecoversAsReported, CompletesInLast, fallen, LastsAsReported, WipesInOrder}
 use Rattle.privacy.proofs.Calm.{when_present_all, cond_facts, Calm, calm_keeps, request_calm, unlisted_calm, bulked_calm, passed_calm, power_relocks, control_next, control_code, is_unit_put, puts}
 use Rattle.privacy.proofs.Asking.{asking, unit_put_is}
 use Rattle.privacy.proofs.PutKinds.{same_kind}
@@ -471,6 +471,19 @@ recovers lay u s k r reset = record { goes_on = goes_on lay u s r reset; counts 
 recovers lay u s k r suspend = record { goes_on = goes_on lay u s r suspend; counts = λ f. absurd (false≢true f); ends = λ f. absurd (false≢true f); wiped = λ f. absurd (false≢true f) }
 recovers lay u s k r resume = record { goes_on = goes_on lay u s r resume; counts = λ f. absurd (false≢true f); ends = λ f. absurd (false≢true f); wiped = λ f. absurd (false≢true f) }
 recovers lay u s k r power = record { goes_on = goes_on lay u s r power; counts = λ f. absurd (false≢true f); ends = λ f. absurd (false≢true f); wiped = λ f. absurd (false≢true f) }
+
+-- a time told in four bytes, and in tens of milliseconds
+told_back : (n : ℕ) → n % 256 + 256 * (n / 256 % 256) + 65536 * (n / 65536 % 256) + 16777216 * (n / 16777216) ≡ n
+told_back n = omega arith
+
+in_tens : (c : ℕ) (st : Standing) → completing c st ≡ 10 * (completing c st / 10)
+in_tens c impersonal = omega arith
+in_tens c (locked p) = omega arith
+in_tens c (unlocked p) = omega arith
+in_tens c (recovering p d) = omega arith
+
+pub lock_data_reports : LockDataReports
+lock_data_reports lay u i k s = told_back (completing (blocks_of lay u) (unit_at u s).standing) ∙ in_tens (blocks_of lay u) (unit_at u s).standing
 
 pub recovers_as_reported : RecoversAsReported
 recovers_as_reported lay m h u fit r e = recovers lay u (after lay m h) (after_clean lay u (fit_disjoint lay (length m) fit) m h) r e

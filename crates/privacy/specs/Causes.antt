@@ -1,11 +1,12 @@
 -- Causes: what must have come before a stick stands as it does, and what an event can change. Over every run from a first power-up.
-use Rattle.std.specs.Prelude.{◌≡◌, ℕ, suc, ◌+◌, ◌-◌, ◌/◌, ◌<◌, ◌≤◌, Bool, true, false, cond, not, ◌&&◌, ◌||◌, ◌⊎◌, ◌↔◌, List, [], ◌∷◌, ◌++◌, length, get_or, Some, None, Option, ◌==◌, ◌≢◌, nat_lt, slice_index_or}
+use Rattle.std.specs.Prelude.{◌≡◌, ℕ, suc, ◌+◌, ◌-◌, ◌*◌, ◌/◌, ◌<◌, ◌≤◌, Bool, true, false, cond, not, ◌&&◌, ◌||◌, ◌⊎◌, ◌↔◌, List, [], ◌∷◌, ◌++◌, length, Some, None, Option, ◌==◌, ◌≢◌, nat_lt, slice_index_or}
 use Rattle.model.specs.Blocks.{Block, bad, good}
 use Rattle.model.specs.Bulk.{place_at}
+use Rattle.model.specs.Bytes.{le32}
 use Rattle.model.specs.Control.{find_unit, unit_at, interface_at, blocks_of}
 use Rattle.model.specs.Events.{Event, control, bulk, work, clock, reset, suspend, resume, power, step, after, run}
 use Rattle.model.specs.Layouts.{Layout, sum, fitted_layout}
-use Rattle.model.specs.LockData.{steps_for, completing}
+use Rattle.model.specs.LockData.{steps_for, completing, lock_data}
 use Rattle.model.specs.Parts.{Access, access_in}
 use Rattle.model.specs.Recovery.{zeros, is_recovering, steps_done_of, first_recovering}
 use Rattle.model.specs.Requests.{requested}
@@ -22,7 +23,7 @@ use Rattle.model.specs.declared.request.Put.{Put}
 use Rattle.model.specs.declared.request.Put.TheVariants.{StorePassphrase, MatchPassphrase, ChangePassphrase, ErasePassphrase, EraseForgottenPassphrase, LockAgain, ChangeInterfaceAccess}
 use Rattle.model.specs.declared.request.Request.{Request}
 use Rattle.model.specs.declared.request.Request.TheVariants.{DeviceDescriptor, Bundle, LockData, HighestUnit, ClearJam, PutTo}
-use Rattle.privacy.specs.Claims.{is_unit, is_power, carries_candidate, accepts, Locked, completes, fits, Since}
+use Rattle.privacy.specs.Claims.{is_bad_block, is_unit, is_power, carries_candidate, accepts, Locked, completes, fits, Since}
 
 -- Kinds of event
 
@@ -57,10 +58,6 @@ is_reset resume = false
 is_reset power = false
 
 -- Blocks
-
-abbrev pub is_bad_block : Block → Bool
-is_bad_block bad = true
-is_bad_block (good bs) = false
 
 -- the number of blocks and the bad marks never change
 pub record MarksKept (m n : List Block) : Type 0 where
@@ -307,6 +304,10 @@ RecoveringWhenAsked = (lay : Layout) (m : List Block) (h : List Event) (u d : �
 abbrev pub reported : Layout → ℕ → Stick → ℕ
 reported lay u s = completing (blocks_of lay u) (unit_at u s).standing / 10
 
+-- in bytes 12 to 15 of the unit's Lock Data, as a time
+abbrev pub LockDataReports : Type 0
+LockDataReports = (lay : Layout) (u i k : ℕ) (s : Stick) → le32 (lock_data (blocks_of lay u) i k (unit_at u s)) 12 ≡ 10 * reported lay u s
+
 abbrev pub IsZeros : Block → Type 0
 IsZeros bad = Unit {0}
 IsZeros (good bs) = bs ≡ zeros
@@ -343,7 +344,7 @@ LastsAsReported = (lay : Layout) (u : ℕ) (s : Stick) (es : List Event) → is_
 abbrev pub WipesInOrder : Type 0
 WipesInOrder = (lay : Layout) (u : ℕ) (s : Stick) (b : ℕ) → falls_to u s work ≡ true → Holds lay u b →
     let turn = (b - (place_at lay u).start) / 16 in
-    let now = get_or (step lay s work).next.blocks b bad in
+    let now = slice_index_or (step lay s work).next.blocks b bad in
     (turn ≡ steps_done_of (unit_at u s).standing → IsZeros now) × ((turn ≢ steps_done_of (unit_at u s).standing) → now ≡ slice_index_or s.blocks b bad)
 
 -- every unit of a fitted stick has a block
@@ -352,16 +353,16 @@ UnitsHaveBlocks = (bs : List ℕ) (blocks u : ℕ) → u < sum (fitted_layout bs
 
 -- Candidates
 
--- Match Passphrase with a candidate, to unit k of interface i
-abbrev pub match_event : ℕ → ℕ → List ℕ → Event
-match_event i k p = control (0x21 ∷ 0xFC ∷ 0x02 ∷ k ∷ i ∷ 0x00 ∷ (length p + 3) ∷ 0x00 ∷ []) ((length p + 3) ∷ 0x25 ∷ (p ++ 0x00 ∷ []))
+-- Match Passphrase with a candidate, to unit k of interface i, whatever stands in the byte behind the interface
+abbrev pub match_event : ℕ → ℕ → ℕ → List ℕ → Event
+match_event i k x p = control (0x21 ∷ 0xFC ∷ 0x02 ∷ k ∷ i ∷ x ∷ (length p + 3) ∷ 0x00 ∷ []) ((length p + 3) ∷ 0x25 ∷ (p ++ 0x00 ∷ []))
 
 -- the stored passphrase opens a Locked unit that is not recovering, with under ten misses and no interface change under way
 abbrev pub CorrectOpens : Type 0
-CorrectOpens = (lay : Layout) (m : List Block) (h : List Event) (i k u : ℕ) (p : List ℕ) →
+CorrectOpens = (lay : Layout) (m : List Block) (h : List Event) (i k x u : ℕ) (p : List ℕ) →
     let s = after lay m h in
     s.phase ≡ Present → find_unit lay i k ≡ Some u → (unit_at u s).standing ≡ locked p → (unit_at u s).misses < 10 →
-    ((step lay s (match_event i k p)).reply.code ≡ 0) × ((unit_at u (step lay s (match_event i k p)).next).standing ≡ unlocked p)
+    ((step lay s (match_event i k x p)).reply.code ≡ 0) × ((unit_at u (step lay s (match_event i k x p)).next).standing ≡ unlocked p)
 
 -- after ten misses no candidate is accepted for a Locked unit, the stored passphrase included
 abbrev pub ShutAfterTen : Type 0
@@ -374,6 +375,7 @@ pub record Caused : Type 0 where
   pub jammed : JammedWhenJammed
   pub recovering_since : RecoveringWhenAsked
   pub recovers : RecoversAsReported
+  pub told : LockDataReports
   pub lasts : LastsAsReported
   pub completes_last : CompletesInLast
   pub in_order : WipesInOrder

@@ -1,15 +1,17 @@
 -- What is claimed of every run on a Locked unit's secret, and what the words of the claims mean.
 use Rattle.std.specs.Prelude.{◌≡◌, ℕ, ◌+◌, ◌<◌, ◌≤◌, Bool, true, false, not, ◌&&◌, ◌||◌, ◌⊎◌, ◌↔◌, List, [], ◌∷◌, length, Some, None, Option, ◌==◌, ◌≢◌, slice_index_or}
-use Rattle.model.specs.Blocks.{Block, bad}
+use Rattle.model.specs.Blocks.{Block, bad, good}
 use Rattle.model.specs.Bulk.{place_at}
 use Rattle.model.specs.Control.{alter, find_unit, unit_at}
 use Rattle.model.specs.Events.{Event, control, bulk, work, clock, reset, suspend, resume, power, step, after, replies}
 use Rattle.model.specs.Extents.{sound}
 use Rattle.model.specs.Layouts.{Layout, place_start, place_count, fitted_layout}
-use Rattle.model.specs.Recovery.{zeroed_block, zeroed, is_recovering}
+use Rattle.model.specs.Recovery.{zeroed, is_recovering}
 use Rattle.model.specs.Requests.{requested}
 use Rattle.model.specs.Sticks.{Stick, stick}
 use Rattle.model.specs.Units.{Standing, impersonal, locked, unlocked, recovering, UnitRecord, unit_record, is_locked, holds_phrase}
+use Rattle.model.specs.declared.lock.LockState.{LockState}
+use Rattle.model.specs.declared.lock.LockState.TheVariants as state
 use Rattle.model.specs.declared.request.Asked.{Asked}
 use Rattle.model.specs.declared.request.Put.{Put}
 use Rattle.model.specs.declared.request.Put.TheVariants.{StorePassphrase, MatchPassphrase, ChangePassphrase, ErasePassphrase, EraseForgottenPassphrase, LockAgain, ChangeInterfaceAccess}
@@ -35,18 +37,33 @@ but lay u s = stick (alter u mute s.units) s.interfaces s.phase (zeroed (place_a
 abbrev pub AlikeBut : Layout → ℕ → Stick → Stick → Type 0
 AlikeBut lay u s t = but lay u s ≡ but lay u t
 
+-- how a unit stands, without its passphrase
+abbrev pub state_of : Standing → LockState
+state_of impersonal = state.Impersonal
+state_of (locked p) = state.Locked
+state_of (unlocked p) = state.Unlocked
+state_of (recovering p d) = state.Recovering d
+
+abbrev pub is_bad_block : Block → Bool
+is_bad_block bad = true
+is_bad_block (good bs) = false
+
 -- the same, respect by respect: how many units; the whole record of every other one, steps done, accepted flag and sense included; of
--- the unit itself all but its passphrase; IDs and jams; the interface change with its target and the time left; how many blocks; every
--- block outside the unit's place; and which blocks are bad
+-- the unit itself how it stands, steps done included, its hint, misses, accepted flag and sense; IDs and jams; the interface change with its
+-- target and the time left; how many blocks; every block outside the unit's place; and which blocks are bad
 pub record Alike (lay : Layout) (u : ℕ) (s t : Stick) : Type 0 where
   pub units : length s.units ≡ length t.units
   pub others : (v : ℕ) → (v ≢ u) → unit_at v s ≡ unit_at v t
-  pub own : mute (unit_at u s) ≡ mute (unit_at u t)
+  pub state : state_of (unit_at u s).standing ≡ state_of (unit_at u t).standing
+  pub hint : (unit_at u s).hint ≡ (unit_at u t).hint
+  pub misses : (unit_at u s).misses ≡ (unit_at u t).misses
+  pub accepted : (unit_at u s).accepted ≡ (unit_at u t).accepted
+  pub sense : (unit_at u s).sense ≡ (unit_at u t).sense
   pub interfaces : s.interfaces ≡ t.interfaces
   pub phase : s.phase ≡ t.phase
   pub blocks : length s.blocks ≡ length t.blocks
   pub outside : (i : ℕ) → (i < (place_at lay u).start) ⊎ ((place_at lay u).start + (place_at lay u).count ≤ i) → slice_index_or s.blocks i bad ≡ slice_index_or t.blocks i bad
-  pub marks : (i : ℕ) → zeroed_block (slice_index_or s.blocks i bad) ≡ zeroed_block (slice_index_or t.blocks i bad)
+  pub marks : (i : ℕ) → is_bad_block (slice_index_or s.blocks i bad) ≡ is_bad_block (slice_index_or t.blocks i bad)
 
 abbrev pub Respects : Type 0
 Respects = (lay : Layout) (u : ℕ) (s t : Stick) → AlikeBut lay u s t ↔ Alike lay u s t

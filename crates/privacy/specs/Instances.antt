@@ -54,7 +54,8 @@ abbrev pub codes : Stick → List Event → List ℕ
 codes s es = map (λ (r : Reply). r.code) (replies lay s es)
 
 pub record Instances : Type 0 where
-  -- the layout is one that a stick is fitted with
+  -- the layout is one that a stick is fitted with, on either medium
+  pub sizes : (length straight_blocks ≡ 20) × (length turning_blocks ≡ 20)
   pub fitted : lay ≡ layout 0 0 0 (2 ∷ []) (place 0 17 ∷ place 18 2 ∷ [])
   pub fitting : (fits lay (length straight_blocks) ≡ true) × (fits lay (length turning_blocks) ≡ true)
   -- both are Locked, with passphrases of their own and bytes of their own
