@@ -10,7 +10,6 @@ pub mod Secret
 pub mod Respects
 pub mod Opened
 pub mod Bounds
-pub mod Runs
 pub mod Caused
 pub mod Instances
 pub mod Kept

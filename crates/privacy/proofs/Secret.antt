@@ -16,7 +16,7 @@ use Rattle.model.specs.declared.request.Asked.{Asked}
 use Rattle.model.specs.declared.request.Put.{Put}
 use Rattle.model.specs.declared.request.Request.{Request}
 use Rattle.model.specs.declared.request.Request.TheVariants.{DeviceDescriptor, Bundle, LockData, HighestUnit, ClearJam, PutTo}
-use Rattle.privacy.specs.Claims.{but, Locked, AlikeBut, accepts, asks_put, asked_put, is_unit, carries_candidate, Guarded, completes, KeepsSecret}
+use Rattle.privacy.specs.Claims.{but, Locked, AlikeBut, accepts, asks_put, asked_put, is_unit, carries_candidate, Agree, completes, KeepsSecret}
 use Rattle.privacy.proofs.Calm.{Calm, when_present_all, calm_keeps, request_calm, unlisted_calm, bulked_calm, passed_calm, power_relocks, control_next, control_code, is_unit_put}
 use Rattle.privacy.proofs.Asking.{asking, unit_put_is}
 use Rattle.privacy.proofs.PutKinds.{candidate, candidate_asked, quieter}
@@ -227,9 +227,9 @@ completed_open lay u s suspend c = kept_done lay u s suspend refl c
 completed_open lay u s resume c = kept_done lay u s resume refl c
 completed_open lay u s power c = kept_done lay u s power (ap is_recovering (power_relocks lay u s) ∙ relocked_recovering _) c
 
-keeps_all : (lay : Layout) (ok : Disjoint lay) (u : ℕ) (s t : Stick) (es : List Event) → Pair lay ok u s t → Guarded lay u s t es
+keeps_all : (lay : Layout) (ok : Disjoint lay) (u : ℕ) (s t : Stick) (es : List Event) → Pair lay ok u s t → Agree lay u s t es (replies lay s es) (replies lay t es)
 unfolding Done
-keeps_all lay ok u s t [] r = tt
+keeps_all lay ok u s t [] r = refl
 keeps_all lay ok u s t (e ∷ es) r =
     ⊎_elim (λ a. inl a) (λ p. ⊎_elim (λ b. inr (inl b)) (λ q. inr (inr (both p q (λ w. keeps_all lay ok u (step lay s e).next (step lay t e).next es w)))) (cases_Bool (accepts carries_candidate lay u t e))) (cases_Bool (accepts carries_candidate lay u s e))
   where
@@ -242,8 +242,8 @@ keeps_all lay ok u s t (e ∷ es) r =
     over : Pair lay ok u s' t' → completes lay u s e ≡ true → s' ≡ t'
     over w c = ⊎_elim (λ a. absurd (both_ways _ (completed_open lay u s e c) a.locked_left)) (λ x. x) w
 
-    both : accepts carries_candidate lay u s e ≡ false → accepts carries_candidate lay u t e ≡ false → (Pair lay ok u s' t' → Guarded lay u s' t' es) →
-        ((step lay s e).reply ≡ (step lay t e).reply) × AlikeBut lay u s' t' × (completes lay u s e ≡ true → (s' ≡ t') × (replies lay s' es ≡ replies lay t' es)) × Guarded lay u s' t' es
+    both : accepts carries_candidate lay u s e ≡ false → accepts carries_candidate lay u t e ≡ false → (Pair lay ok u s' t' → Agree lay u s' t' es (replies lay s' es) (replies lay t' es)) →
+        ((step lay s e).reply ≡ (step lay t e).reply) × AlikeBut lay u s' t' × (completes lay u s e ≡ true → (s' ≡ t') × (replies lay s' es ≡ replies lay t' es)) × Agree lay u s' t' es (replies lay s' es) (replies lay t' es)
     both p q rest =
         let o = onward lay ok u s t e p q r in
         (o.reply, pair_alike lay ok u s' t' o.pair, (λ c. let x = over o.pair c in (x, ap (λ y. replies lay y es) x)), rest o.pair)

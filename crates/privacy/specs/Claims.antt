@@ -3,7 +3,7 @@ use Rattle.std.specs.Prelude.{◌≡◌, ℕ, ◌+◌, ◌<◌, ◌≤◌, Bool,
 use Rattle.model.specs.Blocks.{Block, bad, good}
 use Rattle.model.specs.Bulk.{place_at}
 use Rattle.model.specs.Control.{alter, find_unit, unit_at}
-use Rattle.model.specs.Events.{Event, control, bulk, work, clock, reset, suspend, resume, power, step, after, replies}
+use Rattle.model.specs.Events.{Event, control, bulk, work, clock, reset, suspend, resume, power, step, after, Reply, replies}
 use Rattle.model.specs.Extents.{sound}
 use Rattle.model.specs.Layouts.{Layout, place_start, place_count, fitted_layout}
 use Rattle.model.specs.Recovery.{zeroed, is_recovering}
@@ -139,16 +139,18 @@ Locked u s = is_locked (unit_at u s).standing ≡ true
 abbrev pub completes : Layout → ℕ → Stick → Event → Bool
 completes lay u s e = is_recovering (unit_at u s).standing && not (is_recovering (unit_at u (step lay s e).next).standing)
 
--- Two sticks, fed one list. Up to the first event in which either accepts a candidate for the unit: they agree on the event; they stand
--- alike afterwards but for the unit's secret; and if its recovery completes in the event, they stand alike in every respect and agree on
--- whatever follows.
-abbrev pub Guarded : Layout → ℕ → Stick → Stick → List Event → Type 0
-Guarded lay u s t [] = Unit {0}
-Guarded lay u s t (e ∷ es) =
+-- The replies rs and qs of two sticks s and t to one list of events. Up to the first event in which either accepts a candidate for the
+-- unit: the replies are equal; the sticks stand alike afterwards but for the unit's passphrase and the bytes of its good blocks; and if
+-- the unit's recovery completes in the event, they stand alike in every respect, and all further replies are equal.
+abbrev pub Agree : Layout → ℕ → Stick → Stick → List Event → List Reply → List Reply → Type 0
+Agree lay u s t [] rs qs = rs ≡ qs
+Agree lay u s t (e ∷ es) [] qs = ⊥
+Agree lay u s t (e ∷ es) (r ∷ rs) [] = ⊥
+Agree lay u s t (e ∷ es) (r ∷ rs) (q ∷ qs) =
     let s' = (step lay s e).next in
     let t' = (step lay t e).next in
     (accepts carries_candidate lay u s e ≡ true) ⊎ ((accepts carries_candidate lay u t e ≡ true) ⊎
-    (((step lay s e).reply ≡ (step lay t e).reply) × AlikeBut lay u s' t' × (completes lay u s e ≡ true → (s' ≡ t') × (replies lay s' es ≡ replies lay t' es)) × Guarded lay u s' t' es))
+    ((r ≡ q) × AlikeBut lay u s' t' × (completes lay u s e ≡ true → (s' ≡ t') × (rs ≡ qs)) × Agree lay u s' t' es rs qs))
 
 -- the units' places pass the check against a medium of so many blocks
 abbrev pub fits : Layout → ℕ → Bool
@@ -160,7 +162,7 @@ abbrev pub KeepsSecret : Type 0
 KeepsSecret = (lay : Layout) (m n : List Block) (h k : List Event) (u : ℕ) → fits lay (length m) ≡ true →
     let s = after lay m h in
     let t = after lay n k in
-    Locked u s → AlikeBut lay u s t → (es : List Event) → Guarded lay u s t es
+    Locked u s → AlikeBut lay u s t → (es : List Event) → Agree lay u s t es (replies lay s es) (replies lay t es)
 
 -- Unlocked when opened
 

@@ -1,16 +1,16 @@
 -- Two sticks that were fitted and run: each as the model has it, and the two by what is claimed of all runs.
-use Rattle.std.proofs.Common.{◌≡◌, ℕ, true, ◌↔◌, List, [], ◌∷◌, length, sym, refl, ap, ◌∙◌, subst, inl, inr}
+use Rattle.std.proofs.Common.{◌≡◌, ℕ, true, ◌↔◌, List, [], ◌∷◌, length, sym, refl, ap, ◌∙◌, subst}
 use Rattle.model.specs.Blocks.{Block}
 use Rattle.model.specs.Control.{unit_at}
-use Rattle.model.specs.Events.{Event, Reply, after, replies, run, step}
+use Rattle.model.specs.Events.{Event, Reply, after, replies, run}
 use Rattle.model.specs.Layouts.{Layout}
 use Rattle.model.specs.Sticks.{Stick, first}
 use Rattle.model.specs.Units.{holds_phrase}
-use Rattle.privacy.specs.Claims.{AlikeBut, Guarded, OpenedSince, is_unlocked}
+use Rattle.privacy.specs.Claims.{Agree, AlikeBut, OpenedSince, is_unlocked}
 use Rattle.privacy.proofs.Opened.{open_when_opened}
 use Rattle.privacy.proofs.Places.{fits_always}
 use Rattle.privacy.proofs.Secret.{keeps_secret}
-use Rattle.trial.specs.Lives.{Agree, Life, Secret, fitted, lived, onto}
+use Rattle.trial.specs.Lives.{Life, Secret, fitted, lived, onto}
 
 run_onto : (lay : Layout) (m : List Block) (es past : List Event) → run lay (after lay m past) es ≡ after lay m (onto es past)
 run_onto lay m [] past = refl
@@ -32,13 +32,6 @@ life bytes m h es rs qs l₀ l₁ s₀ s₁ s e₀ is₀ e₁ r₁ is₁ e₂ r�
           (λ u. open_when_opened l m (onto es (onto h [])) u);
     }
 
--- what is claimed of two sticks, of their replies
-agree : (lay : Layout) (u : ℕ) (s t : Stick) (es : List Event) → Guarded lay u s t es → Agree lay u s t es (replies lay s es) (replies lay t es)
-agree lay u s t [] g = refl
-agree lay u s t (e ∷ es) (inl a) = inl a
-agree lay u s t (e ∷ es) (inr (inl a)) = inr (inl a)
-agree lay u s t (e ∷ es) (inr (inr g)) = inr (inr (g.0, g.1, g.2, agree lay u (step lay s e).next (step lay t e).next es g.3))
-
 pub secret : (bytes : List ℕ) (m : List Block) (h es : List Event) (rs : List Reply) (bytes' : List ℕ) (n : List Block) (k fs : List Event) (qs : List Reply)
     → rs ≡ replies (fitted bytes m) (lived bytes m h) es → qs ≡ replies (fitted bytes' n) (lived bytes' n k) fs → Secret bytes m h es rs bytes' n k fs qs
 secret bytes m h es rs bytes' n k fs qs first_said second-said u one-layout one_list closed alike =
@@ -49,10 +42,9 @@ secret bytes m h es rs bytes' n k fs qs first_said second-said u one-layout one_
     let t' = lived bytes' n k in
     let same : t ≡ t' = ap (λ (x : Layout). after x n (onto k [])) one-layout in
     let alike₁ : AlikeBut l u s t = subst (λ (x : Stick). AlikeBut l u s x) (sym same) alike in
-    let g : Guarded l u s t es = keeps_secret l m n (onto h []) (onto k []) u (fits_always bytes (length m)) closed alike₁ es in
     let said : replies l t es ≡ qs =
     ap (λ (x : Layout). replies x t es) one-layout ∙ ap (λ (x : Stick). replies l' x es) same ∙ ap (replies l' t') one_list ∙ sym second-said in
-    let a : Agree l u s t es (replies l s es) (replies l t es) = agree l u s t es g in
+    let a : Agree l u s t es (replies l s es) (replies l t es) = keeps_secret l m n (onto h []) (onto k []) u (fits_always bytes (length m)) closed alike₁ es in
     let b : Agree l u s t es rs (replies l t es) = subst (λ (x : List Reply). Agree l u s t es x (replies l t es)) (sym first_said) a in
     let d : Agree l u s t es rs qs = subst (λ (x : List Reply). Agree l u s t es rs x) said b in
     subst (λ (x : Stick). Agree l u s x es rs qs) same d

@@ -1,12 +1,12 @@
 -- Two sticks side by side, each fitted, powered up and run through events of its own: what each does, and what the two have in common.
-use Rattle.std.specs.Prelude.{◌≡◌, ℕ, true, ◌⊎◌, ◌↔◌, List, [], ◌∷◌, length}
+use Rattle.std.specs.Prelude.{◌≡◌, ℕ, true, ◌↔◌, List, [], ◌∷◌, length}
 use Rattle.model.specs.Blocks.{Block}
 use Rattle.model.specs.Control.{unit_at}
-use Rattle.model.specs.Events.{Event, Reply, after, replies, step}
+use Rattle.model.specs.Events.{Event, Reply, after, replies}
 use Rattle.model.specs.Layouts.{Layout, fitted_layout}
 use Rattle.model.specs.Sticks.{Stick, first}
 use Rattle.model.specs.Units.{holds_phrase}
-use Rattle.privacy.specs.Claims.{AlikeBut, Locked, OpenedSince, accepts, carries_candidate, completes, is_unlocked}
+use Rattle.privacy.specs.Claims.{Agree, AlikeBut, Locked, OpenedSince, is_unlocked}
 
 -- events, the oldest first, put onto a history, whose newest comes first
 abbrev pub onto : List Event → List Event → List Event
@@ -29,19 +29,6 @@ pub record Life (bytes : List ℕ) (m : List Block) (h es : List Event) (before 
   pub further : after-all ≡ replies (fitted bytes m) (lived bytes m h) es
   pub end : s ≡ after (fitted bytes m) m (onto es (onto h []))
   pub opened : (u : ℕ) → holds_phrase (unit_at u s).standing ≡ true → (is_unlocked (unit_at u s).standing ≡ true) ↔ OpenedSince (fitted bytes m) m u (onto es (onto h []))
-
--- The replies rs and qs of two sticks s and t to one list of events. Up to the first event in which either accepts a candidate for the
--- unit: the replies are equal; the sticks stand alike afterwards but for the unit's passphrase and the bytes of its good blocks; and if
--- the unit's recovery completes in the event, they stand alike in every respect, and all further replies are equal.
-abbrev pub Agree : Layout → ℕ → Stick → Stick → List Event → List Reply → List Reply → Type 0
-Agree lay u s t [] rs qs = rs ≡ qs
-Agree lay u s t (e ∷ es) [] qs = ⊥
-Agree lay u s t (e ∷ es) (r ∷ rs) [] = ⊥
-Agree lay u s t (e ∷ es) (r ∷ rs) (q ∷ qs) =
-    let s' = (step lay s e).next in
-    let t' = (step lay t e).next in
-    (accepts carries_candidate lay u s e ≡ true) ⊎ ((accepts carries_candidate lay u t e ≡ true) ⊎
-    ((r ≡ q) × AlikeBut lay u s' t' × (completes lay u s e ≡ true → (s' ≡ t') × (rs ≡ qs)) × Agree lay u s' t' es rs qs))
 
 -- two sticks with one layout, each with a history of its own, that stand alike except in one Locked unit's passphrase and the bytes of its good
 -- blocks, and are fed one list of further events
