@@ -3,9 +3,9 @@ use Rattle.std.proofs.Common.{◌≡◌, ℕ, ◌+◌, ◌-◌, ◌*◌, ◌<◌
 use borrow.Rule.Slice.PartMut.{put_mid}
 use Rattle.std.proofs.lemmas.List.{length-take, length-drop, drop-take, drop-drop}
 use Rattle.std.proofs.lemmas.Slice.{between-put_mid, drop-put_mid, take-put_mid_below}
-use Rattle.std.proofs.lemmas.Bool.{cases_lt}
+use Rattle.std.proofs.lemmas.Bool.{cases_lt, cond-true, and_from, eq-eqb, le-leb}
 use Rattle.model.specs.Blocks.{page}
-use Rattle.medium.specs.Stored.{with_page}
+use Rattle.medium.specs.Stored.{with_page, repaged}
 
 pub length_part : (a w : ℕ) (xs : List ℕ) → a + w ≤ length xs → length (take w (drop a xs)) ≡ w
 length_part a w xs h = simp (length-take, length-drop) (omega arith)
@@ -31,6 +31,9 @@ put_page mem bs p = ap (λ t. take (512 * p) mem ++ (bs ++ t)) (drop-drop 512 (5
 module _ (mem bs : List ℕ) (p : ℕ) (room : 512 * p + 512 ≤ length mem) (l : length bs ≡ 512) where
   pub page_same : page (with_page mem p bs) p ≡ bs
   page_same = ap (λ m. page m p) (sym (put_page mem bs p)) ∙ part_same (512 * p) 512 mem bs room l
+
+  pub repaged_whole : repaged mem p bs ≡ with_page mem p bs
+  repaged_whole = cond-true _ _ _ (and_from _ _ (eq-eqb (length bs) 512 l) (le-leb (512 * p + 512) (length mem) room))
 
   pub page_other : (k : ℕ) → (k ≡ p → ⊥) → page (with_page mem p bs) k ≡ page mem k
   page_other k ne =

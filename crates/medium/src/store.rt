@@ -2,7 +2,7 @@
 // A make adds only on which page a block lies.
 ghost use Rattle.std.specs.Prelude.{◌≡◌, ℕ, ◌+◌, ◌*◌, ◌<◌, ◌≤◌, length, vec_len};
 ghost use Rattle.model.specs.Blocks.{page as page_of, blocks, fitted_blocks};
-ghost use Rattle.medium.specs.Stored.{with_page};
+ghost use Rattle.medium.specs.Stored.{repaged};
 
 use crate::{PAGE, rules};
 use model::layout::BadRun;
@@ -31,25 +31,24 @@ impl<const SPARE: u8> Store<SPARE> {
         }
     }
 
-    // The bytes of a page, one of those that blocks lie on or that are to spare.
+    // The bytes of a page: 512 of those that blocks lie on or that are to spare, and of others what there is of them in the memory.
     pub fn page(&self, page: u32) -> &[u8]
-        requires { (0 < self.now.count) × (page < self.now.count + SPARE) }
         ensures bytes { result.now ≡ page_of self.now.memory.items page }
-        ensures length { length result.now ≡ 512 }
+        ensures length { 0 < self.now.count → page < self.now.count + SPARE → length result.now ≡ 512 }
     {
-        let at = PAGE * page as usize;
-        &self.memory[at..at + PAGE]
+        let rest = self.memory.get(PAGE * page as usize..).unwrap_or(&[]);
+        &rest[..PAGE.min(rest.len())]
     }
 
-    // Sets a page to other bytes.
+    // Sets a page to other bytes. One that is not wholly in the memory, and bytes that are not 512, change nothing.
     pub fn set_page(&mut self, page: u32, bytes: &[u8])
-        requires page { (0 < self.old.count) × (page < self.old.count + SPARE) }
-        requires length { length bytes.now ≡ 512 }
-        ensures memory { self.new.memory.items ≡ with_page self.old.memory.items page bytes.now }
+        ensures memory { self.new.memory.items ≡ repaged self.old.memory.items page bytes.now }
         ensures runs { self.new.runs ≡ self.old.runs }
         ensures count { self.new.count ≡ self.old.count }
     {
         let at = PAGE * page as usize;
-        self.memory[at..at + PAGE].copy_from_slice(bytes);
+        if bytes.len() == PAGE && at + PAGE <= self.memory.len() {
+            self.memory[at..at + PAGE].copy_from_slice(bytes);
+        }
     }
 }

@@ -2,6 +2,7 @@ use Rattle.std.proofs.Common.{◌≡◌, ℕ, ◌+◌, ◌*◌, ◌<◌, ◌≤�
 use Rattle.model.specs.Blocks.{mapped_blocks, written}
 use Rattle.medium.specs.Stored.{with_page}
 use Rattle.medium.proofs.Mapped.{write_mapped}
+use Rattle.medium.proofs.Pages.{repaged_whole}
 use Rattle.std.proofs.lemmas.List.{get_or-set_same, get_or-set_other}
 use Rattle.turning.proofs.calls.TurningMedium.write.Goals as goal
 
@@ -21,4 +22,5 @@ returns-clause-after c =
     write_mapped mem s.runs.items at (λ k. get_or pages k 0) s.count b m.spare bs (c.in_ok-admit.ensures.answer mem at) room (get_or-set_same m.pages b m.spare 0 i)
     (λ k hk ne. (get_or-set_other m.pages b k m.spare 0 ne, m.spared k hk)) in
     let is : c.from.result ≡ m.spare = search rules in
-    rw (c.set_page.ensures.memory, c.set_page.ensures.runs, c.set_page.ensures.count, is, c.swap.ensures.y_after) e
+    let l : length bs ≡ 512 = search rules in
+    rw (c.set_page.ensures.memory, c.set_page.ensures.runs, c.set_page.ensures.count, is, repaged_whole mem bs m.spare room l, c.swap.ensures.y_after) e
