@@ -13,39 +13,46 @@ use stick::stick::power::start;
 use straight::Straight;
 use turning::Turning;
 
-// Fits the stick with a medium of this make, powers it up and runs the script; every event is served.
+// Fits the stick with a medium of this make, powers it up and runs the script.
 fn run<M: Fitted + Drop>(rt: &HostRuntime, fit: Fit, memory: Vec<u8>) -> anyhow::Result<bool> {
     let Fit { layout, runs, .. } = fit;
     let stick = start(M::fit(memory, runs), layout.as_slice());
-    serve_script(rt, rt.stdin(), stick, |_| true)
+    serve_script(rt, rt.stdin(), stick)
 }
 
-// The arguments behind the program's name, or the usage on standard error.
-fn arguments(rt: &HostRuntime) -> anyhow::Result<Vec<String>> {
+// The arguments behind the program's name, or none, with the usage on standard error.
+fn arguments(rt: &HostRuntime) -> anyhow::Result<Option<Vec<String>>> {
     match env::args(rt) {
-        Ok(words) => Ok(words.skip(1).collect(rt.alloc())?),
+        Ok(words) => Ok(Some(words.skip(1).collect(rt.alloc())?)),
         Err(error) => {
             eprintln!(rt; "{error}\n{USAGE}")?;
-            Err(error.into())
+            Ok(None)
         }
     }
 }
 
-// The stick that the command line says, powered up, and the script on it.
+// The stick that the command line says, powered up, and the script on it: whether that got to the script's end.
 fn run_bench(rt: &HostRuntime) -> anyhow::Result<bool> {
-    let words = arguments(rt)?;
-    let fit = chosen_fit(rt, USAGE, words.as_slice())?;
-    let memory = inspected_memory(rt, &fit)?;
+    let Some(words) = arguments(rt)? else {
+        return Ok(false);
+    };
+    let Some(fit) = chosen_fit(rt, USAGE, words.as_slice())? else {
+        return Ok(false);
+    };
+    let Some(memory) = inspected_memory(rt, &fit)? else {
+        return Ok(false);
+    };
     match fit.make {
         Make::Straight => run::<Straight>(rt, fit, memory),
         Make::Turning => run::<Turning>(rt, fit, memory),
     }
 }
 
-// What goes wrong is told on standard error where it is found.
-fn main(rt: HostRuntime) -> ExitCode {
-    match run_bench(&rt) {
-        Ok(true) => ExitCode::SUCCESS,
-        _ => ExitCode::FAILURE,
+// What is turned down is told where it is found; want of memory, or a stream that fails, is told as the program ends.
+fn main(rt: HostRuntime) -> anyhow::Result<ExitCode> {
+    if run_bench(&rt)? {
+        Ok(ExitCode::SUCCESS)
+    } else {
+        Ok(ExitCode::FAILURE)
     }
 }

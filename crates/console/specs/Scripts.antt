@@ -1,15 +1,9 @@
 -- A script's lines, and what they make of a stick.
-use Rattle.std.specs.Prelude.{⊤, Some, None, Ok, Err, Option, Result}
+use Rattle.std.specs.Prelude.{Some, None, Ok, Err, Option, Result}
 use Rattle.model.specs.Events.{Event as Happening, step}
 use Rattle.model.specs.Layouts.{Layout}
 use Rattle.model.specs.Sticks.{Stick}
 use Rattle.record.specs.Buffers.{handed_event}
-
--- a line that is blank, or that says an event for which P holds
-abbrev pub IsServed : {E : Type 0} → (Happening → Type 0) → Result (Option Happening) E → Type 0
-IsServed P (Err e) = ⊥
-IsServed P (Ok None) = ⊤
-IsServed P (Ok (Some h)) = P h
 
 -- the stick after a line: a blank one leaves it, and an event takes a step with the buffer that it is handed
 abbrev pub stick_after : {E : Type 0} → Layout → Stick → Result (Option Happening) E → Stick

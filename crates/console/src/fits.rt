@@ -1,41 +1,46 @@
 // The stick that a command line says, up to the memory of its medium.
-ghost use Rattle.std.specs.Prelude.{◌≡◌, map, length, string_bytes, Ok, IfOk, vec_items, replicate};
+ghost use Rattle.std.specs.Prelude.{◌≡◌, map, length, string_bytes, IfOk, IfSome, replicate};
+ghost use Rattle.std.specs.Option.{option_map};
+ghost use Rattle.std.specs.Result.{result_ok};
 ghost use Rattle.options.specs.Choices.{fit_of, fit_said};
 ghost use Rattle.options.specs.Fits.{memory_fit};
 
-use anyhow::anyhow;
 use options::choice::{Fit, FitError};
 use options::read::read_options;
+use values::error::Mistake;
 
-// The stick that these words say; what is wrong with them is told on standard error, with the usage.
+// The stick that these words say, or none: what is wrong with them is told on standard error then, with the usage.
 pub fn chosen_fit<R: Eprint + AllocGlobal>(
     rt: &R,
     usage: &str,
     words: &[String],
-) -> anyhow::Result<Fit>
-    ensures { IfOk result (λ fit. Ok (fit_of fit) ≡ fit_said (map string_bytes words.now)) }
+) -> anyhow::Result<Option<Fit>>
+    ensures { IfOk result (λ chosen. option_map fit_of chosen ≡ result_ok (fit_said (map string_bytes words.now))) }
 {
     match read_options(rt.alloc(), words) {
-        Ok(fit) => Ok(fit),
+        Ok(fit) => Ok(Some(fit)),
+        Err(Mistake::OutOfMemory) => Err(Mistake::OutOfMemory.into()),
         Err(mistake) => {
             eprintln!(rt; "{mistake}\n{usage}")?;
-            Err(mistake.into())
+            Ok(None)
         }
     }
 }
 
-// Memory of zeros for a stick that passes inspection; a refusal is told on standard error, and of want of memory nothing.
-pub fn inspected_memory<R: Eprint + AllocGlobal>(rt: &R, fit: &Fit) -> anyhow::Result<Vec<u8>>
-    ensures zeros { IfOk result (λ v. v.items ≡ replicate (length v.items) 0) }
-    ensures inspected { IfOk result (λ v. Ok (length v.items) ≡ memory_fit (fit_of fit.now)) }
+// Memory of zeros for a stick that passes inspection, or none: the refusal is told on standard error then.
+pub fn inspected_memory<R: Eprint + AllocGlobal>(
+    rt: &R,
+    fit: &Fit,
+) -> anyhow::Result<Option<Vec<u8>>>
+    ensures zeros { IfOk result (λ memory. IfSome memory (λ v. v.items ≡ replicate (length v.items) 0)) }
+    ensures inspected { IfOk result (λ memory. option_map (λ v. length v.items) memory ≡ result_ok (memory_fit (fit_of fit.now))) }
 {
     match fit.zeroed_memory(rt.alloc()) {
-        Ok(memory) => Ok(memory),
+        Ok(memory) => Ok(Some(memory)),
+        Err(FitError::OutOfMemory) => Err(FitError::OutOfMemory.into()),
         Err(error) => {
-            if error != FitError::OutOfMemory {
-                eprintln!(rt; "{error}")?;
-            }
-            Err(anyhow!("a stick that is not fitted"))
+            eprintln!(rt; "{error}")?;
+            Ok(None)
         }
     }
 }
@@ -47,8 +52,12 @@ mod tests {
 
     #[test]
     fn the_own_stick(rt: HostRuntime) -> Result<(), Fail> {
-        let memory = chosen_fit(&rt, "", &[]).map(|fit| inspected_memory(&rt, &fit));
-        assert!(rt; matches!(&memory, Ok(Ok(bytes)) if bytes.len() == 32768));
+        let own = chosen_fit(&rt, "", &[]);
+        let memory = match &own {
+            Ok(Some(fit)) => inspected_memory(&rt, fit),
+            _ => Ok(None),
+        };
+        assert!(rt; matches!(&memory, Ok(Some(bytes)) if bytes.len() == 32768));
         Ok(())
     }
 }

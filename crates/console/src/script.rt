@@ -1,7 +1,6 @@
 // A script served to a stick, from line to event to record.
 // Each record is written before the next line is read.
-ghost use Rattle.std.specs.Prelude.{◌≡◌, true, [], ◌∷◌, ◌++◌, IfOk, IfSome};
-ghost use Rattle.std.specs.Fn.{FnReturnsAt};
+ghost use Rattle.std.specs.Prelude.{◌≡◌, true, [], ◌∷◌, ◌++◌, is_ok, IfOk, IfSome};
 ghost use Rattle.std.specs.List.{AllByRecursion};
 ghost use Rattle.std.specs.Str.Lines.{lines};
 ghost use Rattle.model.specs.Events.{step};
@@ -10,10 +9,9 @@ ghost use Rattle.stick.specs.Meaning.{stick_of};
 ghost use Rattle.lines.specs.Lines.{line_said};
 ghost use Rattle.record.specs.Buffers.{handed_event};
 ghost use Rattle.record.specs.Replies.{reply_line};
-ghost use Rattle.console.specs.Scripts.{IsServed, stick_after};
+ghost use Rattle.console.specs.Scripts.{stick_after};
 
 use crate::serving::serve_lines;
-use anyhow::anyhow;
 use events::Event;
 use lines::line::read_line;
 use medium::Medium;
@@ -44,50 +42,34 @@ fn answered<M: Medium + Drop>(
 }
 
 // Performs the event of a line, and writes its record.
-fn serve_line<R, M, F>(
-    rt: &R,
-    stick: Running<M>,
-    line: &[u8],
-    serves: &F,
-) -> anyhow::Result<Running<M>>
+fn serve_line<R, M>(rt: &R, stick: Running<M>, line: &[u8]) -> anyhow::Result<Running<M>>
 where
     R: Print + AllocGlobal,
     M: Medium + Drop,
-    F: Fn(&Event) -> bool,
-    requires { F.IsAlwaysCallable serves.now }
-    ensures served { IfOk result (λ _. IsServed (λ h. (e : _) × (event_of e ≡ h) × FnReturnsAt F.Fn serves.now e true) (line_said line.now)) }
+    ensures said { IfOk result (λ _. is_ok (line_said line.now) ≡ true) }
     ensures next { IfOk result (λ t. stick_of M.meaning t ≡ stick_after stick.layout (stick_of M.meaning stick) (line_said line.now)) }
     ensures layout { IfOk result (λ t. t.layout ≡ stick.layout) }
 {
     match read_line(rt.alloc(), line)? {
         None => Ok(stick),
-        Some(event) if serves(&event) => {
+        Some(event) => {
             let (stick, record) = answered(rt.alloc(), stick, event)?;
             rt.write_all(record.as_slice())?;
             Ok(stick)
         }
-        Some(_) => Err(anyhow!("this event is not served yet")),
     }
 }
 
-// Serves the events of a script that `serves` names, and says whether it got to the end: a line that is malformed, or whose event is not
-// served, is told on standard error and ends it.
-pub fn serve_script<R, B, M, F>(
-    rt: &R,
-    source: B,
-    stick: Running<M>,
-    serves: F,
-) -> anyhow::Result<bool>
+// Serves the events of a script, and says whether it got to the end: a malformed line is told on standard error and ends it.
+pub fn serve_script<R, B, M>(rt: &R, source: B, stick: Running<M>) -> anyhow::Result<bool>
 where
     R: Print + Eprint + AllocGlobal,
     B: Read + Drop,
     M: Medium + Drop,
-    F: Fn(&Event) -> bool + Drop,
-    requires { F.IsAlwaysCallable serves }
-    ensures { IfOk result (λ ended. ended ≡ true → IfSome (B.remaining source) (λ xs. AllByRecursion (λ line. IsServed (λ h. (e : _) × (event_of e ≡ h) × FnReturnsAt F.Fn serves e true) (line_said line)) (lines xs))) }
+    ensures { IfOk result (λ ended. ended ≡ true → IfSome (B.remaining source) (λ xs. AllByRecursion (λ line. is_ok (line_said line) ≡ true) (lines xs))) }
 {
     let served = serve_lines(rt, source, "", stick, |stick, _, line| {
-        serve_line(rt, stick, line, &serves)
+        serve_line(rt, stick, line)
     })?;
     Ok(served.is_some())
 }
@@ -107,13 +89,13 @@ mod tests {
     }
 
     #[test]
-    fn ends_at_what_is_not_served(rt: HostRuntime) -> Result<(), Fail> {
-        let script = "W\n\nT 00000001\n".as_bytes();
-        let all = serve_script(&rt, script, own_stick(rt.alloc())?, |_| true);
-        assert!(rt; matches!(&all, Ok(true)));
-        let work = |event: &Event| matches!(event, Event::Work);
-        let some = serve_script(&rt, script, own_stick(rt.alloc())?, work);
-        assert!(rt; matches!(&some, Ok(false)));
+    fn ends_at_a_malformed_line(rt: HostRuntime) -> Result<(), Fail> {
+        let whole = serve_script(&rt, "W\n\nP\n".as_bytes(), own_stick(rt.alloc())?);
+        assert!(rt; matches!(&whole, Ok(true)));
+        let broken = serve_script(&rt, "W\nX\nP\n".as_bytes(), own_stick(rt.alloc())?);
+        assert!(rt; matches!(&broken, Ok(false)));
+        let torn = serve_script(&rt, b"W\n\xFF\n".as_slice(), own_stick(rt.alloc())?);
+        assert!(rt; matches!(&torn, Ok(false)));
         Ok(())
     }
 }

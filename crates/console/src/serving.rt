@@ -1,10 +1,23 @@
 // Lines of a script, each served before the next is read.
 // What serving a line keeps, serving them all keeps.
-ghost use Rattle.std.specs.Prelude.{◌≡◌, ℕ, Bool, true, Ok, IfOk, IfSome};
+ghost use Rattle.std.specs.Prelude.{◌≡◌, ℕ, Bool, true, None, Ok, IfOk, IfSome};
 ghost use Rattle.std.specs.Str.Lines.{lines};
 ghost use Rattle.console.specs.Turns.{EachServed};
 
 use std::io::{BufRead, BufReader, Read};
+
+// Tells what is wrong with a line, behind the place that the lines come from: nothing is answered.
+fn ended<R: Eprint, S>(
+    rt: &R,
+    place: &str,
+    number: u64,
+    error: anyhow::Error,
+) -> anyhow::Result<Option<S>>
+    ensures { IfOk result (λ o. o ≡ None) }
+{
+    eprintln!(rt; "{place}line {number}: {error}")?;
+    Ok(None)
+}
 
 // Serves each line, with its number from 1 on, to what the lines before made. What is wrong with a line is told on standard error behind
 // the place that the lines come from; nothing more is read then, and nothing is answered.
@@ -27,13 +40,13 @@ where
     let mut number = 0u64;
     for line in BufReader::new(rt.alloc(), source)?.lines(rt.alloc()) {
         number = number.saturating_add(1);
-        let line = line?;
+        let line = match line {
+            Ok(line) => line,
+            Err(error) => return ended(rt, place, number, error.into()),
+        };
         match serve(state, number, line.as_bytes()) {
             Ok(next) => state = next,
-            Err(error) => {
-                eprintln!(rt; "{place}line {number}: {error}")?;
-                return Ok(None);
-            }
+            Err(error) => return ended(rt, place, number, error),
         }
     }
     Ok(Some(state))

@@ -2,7 +2,6 @@
 // It prints both records of the common script, and the first line at which they differ.
 #![tactic(auto)]
 
-use anyhow::anyhow;
 use console::fits::{chosen_fit, inspected_memory};
 use console::serving::serve_lines;
 use lines::line::read_line;
@@ -75,13 +74,14 @@ fn with_line(heap: Global, mut script: Script, line: &[u8], number: u64) -> anyh
     Ok(script)
 }
 
-fn read_script(rt: &HostRuntime, path: &str) -> anyhow::Result<Script> {
+// The script in a file, or none: what is wrong with it is told on standard error then.
+fn read_script(rt: &HostRuntime, path: &str) -> anyhow::Result<Option<Script>> {
     let heap = rt.alloc();
     let file = match fs::open(rt, path) {
         Ok(file) => file,
         Err(error) => {
             eprintln!(rt; "{path}: {error}")?;
-            return Err(error.into());
+            return Ok(None);
         }
     };
     let none = Script {
@@ -89,10 +89,31 @@ fn read_script(rt: &HostRuntime, path: &str) -> anyhow::Result<Script> {
         lines: Vec::new(heap),
     };
     let place = format!(in heap; "{path}, ")?;
-    let script = serve_lines(rt, file, place.as_str(), none, |script, number, line| {
+    serve_lines(rt, file, place.as_str(), none, |script, number, line| {
         with_line(heap, script, line, number)
-    })?;
-    script.ok_or(anyhow!("a malformed line"))
+    })
+}
+
+// A stick on memory of its own, with the scripts in two files, or none.
+fn prepared(
+    rt: &HostRuntime,
+    fit: Fit,
+    setup: &str,
+    common: &str,
+) -> anyhow::Result<Option<Inspected>> {
+    let Some(memory) = inspected_memory(rt, &fit)? else {
+        return Ok(None);
+    };
+    let Some(setup) = read_script(rt, setup)? else {
+        return Ok(None);
+    };
+    let common = read_script(rt, common)?;
+    Ok(common.map(|common| Inspected {
+        fit,
+        memory,
+        setup,
+        common,
+    }))
 }
 
 // Prints the record of a stick, each line behind the stick's number.
@@ -178,53 +199,49 @@ fn run_second<M: Medium + Drop>(
     }
 }
 
-// The two sticks by their options: behind a divider the second's, and without one both have the same.
-fn chosen_fits(rt: &HostRuntime, words: &[String]) -> anyhow::Result<(Fit, Fit)> {
+// The two sticks by their options, or none: behind a divider stand the second's, and without one both have the same.
+fn chosen_fits(rt: &HostRuntime, words: &[String]) -> anyhow::Result<Option<(Fit, Fit)>> {
     let divider = words.iter().position(|word| word.as_str() == "--");
     let (first, second) = match divider {
         Some(at) => (&words[..at], &words[at + 1..]),
         None => (words, words),
     };
-    Ok((
-        chosen_fit(rt, USAGE, first)?,
-        chosen_fit(rt, USAGE, second)?,
-    ))
+    let Some(first) = chosen_fit(rt, USAGE, first)? else {
+        return Ok(None);
+    };
+    let second = chosen_fit(rt, USAGE, second)?;
+    Ok(second.map(|second| (first, second)))
 }
 
-// The sticks and scripts that the command line says, side by side.
-fn run_twins(rt: &HostRuntime) -> anyhow::Result<()> {
+// The sticks and scripts that the command line says, side by side: whether they could be run.
+fn run_twins(rt: &HostRuntime) -> anyhow::Result<bool> {
     let words: Vec<String> = env::args(rt)?.skip(1).collect(rt.alloc())?;
-    let [first, second, common, rest @ ..] = words.as_slice() else {
+    let [first_path, second_path, common_path, rest @ ..] = words.as_slice() else {
         eprintln!(rt; "{USAGE}")?;
-        return Err(anyhow!("a command line that is none of twins'"));
+        return Ok(false);
     };
-    let (first_fit, second_fit) = chosen_fits(rt, rest)?;
-    let memory = inspected_memory(rt, &first_fit)?;
-    let setup = read_script(rt, first.as_str())?;
-    let second_setup = read_script(rt, second.as_str())?;
-    let first = Inspected {
-        fit: first_fit,
-        memory,
-        setup,
-        common: read_script(rt, common.as_str())?,
+    let common = common_path.as_str();
+    let Some((first, second)) = chosen_fits(rt, rest)? else {
+        return Ok(false);
     };
-    let second_common = read_script(rt, common.as_str())?;
-    let second = Inspected {
-        memory: inspected_memory(rt, &second_fit)?,
-        fit: second_fit,
-        setup: second_setup,
-        common: second_common,
+    let Some(first) = prepared(rt, first, first_path.as_str(), common)? else {
+        return Ok(false);
+    };
+    let Some(second) = prepared(rt, second, second_path.as_str(), common)? else {
+        return Ok(false);
     };
     match first.fit.make {
-        Make::Straight => run_second(rt, first.fitted::<Straight>(), second),
-        Make::Turning => run_second(rt, first.fitted::<Turning>(), second),
+        Make::Straight => run_second(rt, first.fitted::<Straight>(), second)?,
+        Make::Turning => run_second(rt, first.fitted::<Turning>(), second)?,
     }
+    Ok(true)
 }
 
-// What goes wrong is told on standard error where it is found.
-fn main(rt: HostRuntime) -> ExitCode {
-    match run_twins(&rt) {
-        Ok(()) => ExitCode::SUCCESS,
-        Err(_) => ExitCode::FAILURE,
+// What is turned down is told where it is found; want of memory, or a stream that fails, is told as the program ends.
+fn main(rt: HostRuntime) -> anyhow::Result<ExitCode> {
+    if run_twins(&rt)? {
+        Ok(ExitCode::SUCCESS)
+    } else {
+        Ok(ExitCode::FAILURE)
     }
 }

@@ -9,10 +9,10 @@ loop-line-preserved g c =
     let left = lines_known_bytes (reader_remaining g.B.Read.remaining) c.loop-line.line-iterator in
     let more = lines_known_bytes (reader_remaining g.B.Read.remaining) c.next.new.self in
     record {
-      kept = λ p start step. step _ _ _ _ (c.loop-line.invariant.kept p start step) c.in-Ok.ensures;
+      kept = λ p start step. step _ _ _ _ (c.loop-line.invariant.kept p start step) c.in-Ok-serve.ensures;
       each = led_more (λ s n shown r. g.F.Fn.post c.args.serve (s, (n, (shown, tt))) r) c.args.state (g.B.Read.remaining c.args.source) left more
-          c.loop-line.number _ c.loop-line.state c.in-Ok.next (string_bytes c.in_ok-line.line) c.as_bytes.result
-          c.loop-line.invariant.each (search rules) (search rules) c.as_bytes.ensures.value c.in-Ok.ensures;
+          c.loop-line.number _ c.loop-line.state c.in-Ok-serve.next (string_bytes c.in-Ok.line) c.as_bytes.result
+          c.loop-line.invariant.each (search rules) (search rules) c.as_bytes.ensures.value c.in-Ok-serve.ensures;
     }
 
 pub returns-clause-each : goal.returns-clause-each
