@@ -259,4 +259,19 @@ mod tests {
             ]
         );
     }
+
+    // Tables are plain data: what one copy meets, the other does not.
+    #[test]
+    fn tables_are_copied(rt: HostRuntime) {
+        let mut interfaces = Interfaces::new();
+        interfaces.push(Interface::default());
+        let before = interfaces;
+        interfaces.jam(0);
+        assert!(rt; interfaces.is_jammed(0));
+        assert!(rt; !before.is_jammed(0));
+        let layout = Layout::fit(&[0, 0, 0, 0, 0, 0, 1, 1, 8, 0, 0, 0, 2, 0, 0, 0], 64);
+        let before = layout;
+        assert_eq!(rt; layout.unit_holding(9), Some(0));
+        assert_eq!(rt; before.unit_holding(9), Some(0));
+    }
 }
