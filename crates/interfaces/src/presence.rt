@@ -8,6 +8,7 @@ ghost use Rattle.model.specs.Sticks.{interface as interface_with};
 ghost use Rattle.model.specs.declared.ids.Interface.{Interface};
 
 use crate::table::Interfaces;
+use lists::list::FixedList;
 use model::ids::{Ids, Interface};
 
 impl Interfaces {
@@ -45,11 +46,14 @@ impl Interfaces {
         ensures list { self.new ≡ map unjammed self.old }
         ensures count { length self.new ≡ length self.old }
     {
-        for at in 0..self.list.len() {
-            let mut interface = self.list[at];
-            interface.jammed = false;
-            self.list.set(at, interface);
+        let mut cleared = FixedList::new();
+        for interface in self.list.iter() {
+            cleared.push(Interface {
+                jammed: false,
+                ..*interface
+            });
         }
+        self.list = cleared;
     }
 
     // One interface presents the target; the others keep their IDs.
