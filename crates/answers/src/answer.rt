@@ -8,6 +8,7 @@ use std::marker::Model;
 // The longest answer of all is Lock Data with a hint of 100 bytes.
 pub const LONGEST_ANSWER: usize = 119;
 
+// A type of its own around the list: only this crate makes answers.
 #[derive(Clone, Copy)]
 pub struct Answer {
     bytes: FixedList<u8, LONGEST_ANSWER>,

@@ -251,6 +251,8 @@ mod tests {
         interfaces.push(negotiable);
         interfaces.push(plain);
         interfaces.push(negotiable);
+        interfaces.push(negotiable);
+        interfaces.list.truncate(3);
         let device = device_descriptor(&Layout::fit(&bytes, 3), &interfaces);
         assert_eq!(rt;
             device,

@@ -37,6 +37,7 @@ where
     ensures kept { (p : S → Bool) → p state ≡ true → ((s : S) (n : ℕ) (line : _) (t : S) → p s ≡ true → F.post serve s n line (Ok t) → p t ≡ true) → IfOk result (λ o. IfSome o (λ t. p t ≡ true)) }
     ensures each { IfOk result (λ o. IfSome o (λ t. IfSome (B.remaining source) (λ xs. EachServed (F.post serve) state (lines xs) t))) }
 {
+    // A count that saturates, which a range of numbers does not.
     let mut number = 0u64;
     for line in BufReader::new(rt.alloc(), source)?.lines(rt.alloc()) {
         number = number.saturating_add(1);

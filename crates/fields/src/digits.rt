@@ -7,7 +7,7 @@ ghost use Rattle.fields.specs.Readings.{Reads, wants_memory};
 use crate::error::LineError;
 use std::alloc::{AllocError, Global};
 
-// The value of a hexadecimal digit, case by case as a script writes it, like the event letters.
+// The value of a hexadecimal digit. Not by `to_digit`: what a script is written with, digits and event letters, is told case by case.
 pub fn digit(c: char) -> Option<u8>
     ensures value { result ≡ digit_value c }
     ensures bound { MatchOption result (digit_value c ≡ None) (λ d. d < 16) }

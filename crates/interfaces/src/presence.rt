@@ -11,6 +11,7 @@ use crate::table::Interfaces;
 use lists::list::FixedList;
 use model::ids::{Ids, Interface};
 
+// How many there are is said beside each list: the stick's invariant has as many as the layout.
 impl Interfaces {
     // Changes one interface; the others stay.
     fn alter<F: FnOnce(&mut Interface)>(&mut self, interface: u8, change: F)

@@ -9,6 +9,7 @@ use model::ids::{Ids, Interface};
 use model::limits::MOST_INTERFACES;
 use std::marker::Model;
 
+// A type of its own around the list: what is read of an interface that there is not stands here.
 #[derive(Clone, Copy)]
 pub struct Interfaces {
     pub list: FixedList<Interface, MOST_INTERFACES>,
@@ -61,6 +62,7 @@ impl Interfaces {
     }
 }
 
+// By hand, since a derive does not say which value it makes.
 impl Default for Interfaces {
     ghost is_default = { λ interfaces. interfaces ≡ [] };
 

@@ -7,6 +7,7 @@ ghost use Rattle.std.specs.Prelude.{false};
 use model::ids::{Ids, Interface};
 use model::layout::Place;
 
+// A constant, where `Default` has a function: the invariant of a list names the element.
 pub trait Blank: Copy {
     ghost BLANK: { Self };
 

@@ -33,6 +33,7 @@ impl<T: Blank, const N: usize> Model for FixedList<T, N> {
     } };
 }
 
+// By hand: a derive would clone element by element, and a clone may fail.
 impl<T: Blank, const N: usize> Clone for FixedList<T, N> {
     ghost is_clone = { λ list copy. copy ≡ list };
 

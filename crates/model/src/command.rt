@@ -38,7 +38,8 @@ pub enum Command {
     // READ(10) and WRITE(10), with an address in the unit and a number of blocks
     Read { address: u32, count: u16 },
     Write { address: u32, count: u16 },
-    // an unlisted command, or one with an option that is not served: it fails with this sense
+    // an unlisted command, or one with an option that is not served: it fails with this sense. No error: as the others it has a unit, and
+    // is weighed against its state first
     Rejected { sense: Sense },
 }
 

@@ -1,6 +1,7 @@
 // Why the last command for a unit failed, as REQUEST SENSE tells it.
 #[derive(Clone, Copy)]
 pub enum Sense {
+    // no `Option` around the others: a host is told this one as them, 00h, 00h and 00h
     None,
     // a recovering unit is not ready
     Recovering,

@@ -20,11 +20,10 @@ fn line_of(heap: Global, reply: Reply, buffer: &[u8]) -> Result<Vec<u8>, AllocEr
     match reply {
         Err(refusal) => record_line(heap, u8::from(refusal), &[], &[]),
         Ok(done) => {
-            // A match: to `map_or` the array and the empty slice are of two types.
-            let csw = match &done.csw {
-                Some(csw) => csw.as_slice(),
-                None => &[],
-            };
+            let csw = done
+                .csw
+                .as_ref()
+                .map_or([].as_slice(), |csw| csw.as_slice());
             record_line(heap, 0, csw, front(buffer, done.answered))
         }
     }

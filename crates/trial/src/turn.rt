@@ -9,7 +9,7 @@ use scsi::status::CSW_LENGTH;
 use stick::completion::Completion;
 
 // What an event that is not refused answers: the CSW of a bulk command, and how many bytes at the front of the handed buffer.
-#[derive(Clone, Copy)]
+#[derive(Clone, Copy, PartialEq, Eq)]
 pub struct Done {
     pub csw: Option<[u8; CSW_LENGTH]>,
     pub answered: usize,

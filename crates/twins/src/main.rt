@@ -9,7 +9,7 @@ use medium::{Fitted, Medium};
 use options::choice::{Fit, Make};
 use record::buffer::handed;
 use record::turn::turn_line;
-use std::alloc::{AllocError, Global};
+use std::alloc::Global;
 use std::io::Write;
 use std::process::ExitCode;
 use std::{env, fs};
@@ -129,23 +129,20 @@ fn print_record(rt: &HostRuntime, stick: u8, turns: &[Turn]) -> anyhow::Result<(
     Ok(())
 }
 
-// Whether two sticks agreed on an event: number, all that is answered, and the buffer afterwards.
-fn is_agreed(heap: Global, first: &Turn, second: &Turn) -> Result<bool, AllocError> {
-    let one = turn_line(heap, first)?;
-    let other = turn_line(heap, second)?;
-    Ok(one.as_slice() == other.as_slice() && first.event.buffer() == second.event.buffer())
+// Whether two sticks agreed on an event: number, CSW, all that is answered, and the buffer afterwards.
+fn is_agreed(first: &Turn, second: &Turn) -> bool {
+    first.reply == second.reply && first.event.buffer() == second.event.buffer()
 }
 
 // Says where the two records differ first.
 fn compare(rt: &HostRuntime, first: &Script, second: &Script) -> anyhow::Result<()> {
-    let heap = rt.alloc();
     for ((one, other), number) in first
         .turns
         .iter()
         .zip(second.turns.iter())
         .zip(first.lines.iter())
     {
-        if !is_agreed(heap, one, other)? {
+        if !is_agreed(one, other) {
             println!(rt; "line {number} differs")?;
             return Ok(());
         }

@@ -1,5 +1,5 @@
 // One unit's record: a plain row of fixed arrays.
-// No invariant of its own: a transition changes a row field by field while it is lent, and the table bounds all rows.
+// No invariant of its own, which would be no plainer: a transition changes a row field by field while it is lent, and the table bounds all rows.
 ghost use Rattle.std.specs.Prelude.{◌≡◌, true};
 ghost use Rattle.model.specs.Units.{new_unit, powered, holds_phrase, is_locked};
 ghost use Rattle.units.specs.Records.{record_of, sound_row};
@@ -63,6 +63,7 @@ impl Row {
     }
 }
 
+// By hand, since a derive does not say which value it makes.
 impl Default for Row {
     ghost is_default = { λ r. (record_of r ≡ new_unit) × (sound_row r ≡ true) };
 

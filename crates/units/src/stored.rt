@@ -1,5 +1,5 @@
 // Bytes at the front of a fixed array, with zeros behind them.
-// Not a list of `lists`: clauses show that zeros lie behind the stored bytes, and a row of such arrays has no invariant of its own.
+// Not a list of `lists`, which keeps its memory to itself: a candidate is compared over the whole array, whatever is stored in it.
 ghost use Rattle.std.specs.Prelude.{◌≡◌, ◌≤◌, true, length, replicate};
 
 #[derive(Clone, Copy)]
@@ -45,6 +45,7 @@ impl<const N: usize> Stored<N> {
     }
 }
 
+// By hand, since a derive does not say which value it makes.
 impl<const N: usize> Default for Stored<N> {
     ghost is_default = { λ s. (s.bytes ≡ replicate N 0) × (s.len ≡ 0) };
 

@@ -79,6 +79,7 @@ impl Rows {
     }
 }
 
+// By hand, since a derive does not say which value it makes.
 impl Default for Rows {
     ghost is_default = { λ rows. rows ≡ replicate 16 new_unit };
 

@@ -18,6 +18,8 @@ use model::request::UnitAddress;
 use scsi::status::csw;
 use scsi::wrapper::read_cbw;
 
+// A call narrows its own three parameters down step by step, so they stay apart. That no more is answered than the buffer holds is a fact
+// of two values, which no type of one can say, as in control transfers.
 impl<M: Medium> Running<M> {
     // The command for the unit with this number, and the sense that it leaves there.
     fn command(&mut self, index: usize, cbw: Cbw, buffer: &mut [u8]) -> Result<Completion, Refusal>
