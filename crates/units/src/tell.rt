@@ -12,17 +12,23 @@ use answers::lock_data::{LockFacts, lock_data};
 use model::request::UnitAddress;
 
 impl Row {
-    fn lock_data(&self, blocks: u32, address: UnitAddress) -> Answer
-        requires { sound_row self.now ≡ true }
-        ensures { result ≡ lock_data blocks address.interface address.unit (record_of self.now) }
+    // What Lock Data tell of the unit besides its hint.
+    fn facts(&self, blocks: u32, address: UnitAddress) -> LockFacts
+        ensures { result ≡ record { blocks = blocks; address = address; state = self.now.state; accepted = self.now.accepted } }
     {
-        let facts = LockFacts {
+        LockFacts {
             blocks,
             address,
             state: self.state,
             accepted: self.accepted,
-        };
-        lock_data(facts, self.hint.as_slice())
+        }
+    }
+
+    fn lock_data(&self, blocks: u32, address: UnitAddress) -> Answer
+        requires { sound_row self.now ≡ true }
+        ensures { result ≡ lock_data blocks address.interface address.unit (record_of self.now) }
+    {
+        lock_data(self.facts(blocks, address), self.hint.as_slice())
     }
 }
 

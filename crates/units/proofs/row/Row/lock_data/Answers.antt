@@ -1,5 +1,6 @@
 use Rattle.std.proofs.Common.{◌≡◌, ℕ, ◌≤◌, List, take, ap, ◌∙◌, arith, rules}
 use Rattle.answers.specs.Standings.{standing_by}
+use Rattle.answers.specs.declared.lock_data.LockFacts.{LockFacts}
 use Rattle.model.specs.LockData.{lock_data}
 use Rattle.model.specs.Units.{unit_record}
 use Rattle.std.proofs.lemmas.List.{take_all, length-take}
@@ -14,5 +15,7 @@ returns c =
     let s = c.args.self.now in
     let p = take s.phrase.len s.phrase.bytes in
     let few : s.hint.len ≤ 100 = search rules in
+    let told = λ (f : LockFacts) (h : List ℕ). lock_data f.blocks f.address.interface f.address.unit (unit_record (standing_by f.state p) h s.misses f.accepted s.sense) in
     c.lock_data.ensures p s.misses s.sense
-    ∙ ap (λ h. lock_data c.args.blocks c.args.address.interface c.args.address.unit (unit_record (standing_by s.state p) h s.misses s.accepted s.sense)) (uncut s.hint.len s.hint.bytes c.as_slice.result.now few c.as_slice.ensures)
+    ∙ ap (λ f. told f (take 100 c.as_slice.result.now)) c.facts.ensures
+    ∙ ap (told (record { blocks = c.args.blocks; address = c.args.address; state = s.state; accepted = s.accepted })) (uncut s.hint.len s.hint.bytes c.as_slice.result.now few c.as_slice.ensures)
