@@ -37,7 +37,3 @@ module _ (m : List Block) (b n i : ℕ) (lt : i < n) where
   -- and from a bad one there is none
   pub run_bad : get_or m (b + i) bad ≡ bad → good_run (n - i) (b + i) m ≡ 0
   run_bad e = ap (λ x. good_run x (b + i) m) left ∙ ap (λ x. one_more x (good_run (n - (i + 1)) (suc (b + i)) m)) e
-
--- nor is there one behind the last block
-pub run_out : (m : List Block) (b n i : ℕ) → i ≡ n → good_run (n - i) (b + i) m ≡ 0
-run_out m b n i is = let none : n - i ≡ 0 = omega arith in ap (λ x. good_run x (b + i) m) none

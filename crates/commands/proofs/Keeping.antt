@@ -21,12 +21,6 @@ pub record Along (m0 : List Block) (b n : ℕ) (ds : List ℕ) (m : List Block) 
   pub blocks : kept (n - i) (b + i) (drop (512 * i) ds) m ≡ kept n b ds m0
 
 module _ (m0 : List Block) (b n : ℕ) (ds : List ℕ) where
-  pub along_none : Along m0 b n ds m0 0
-  along_none =
-      let z : b + 0 ≡ b = omega arith in
-      let y : n - 0 ≡ n = omega arith in
-      record { moved = rw (z, y) (omega arith); blocks = rw (z, y) refl }
-
   pub along_more : (m : List Block) (bs : List ℕ) (i : ℕ) → i < n → get_or m (b + i) bad ≡ good bs → Along m0 b n ds m i
       → Along m0 b n ds (written m (b + i) (take 512 (drop (512 * i) ds))) (i + 1)
   along_more m bs i lt e a =

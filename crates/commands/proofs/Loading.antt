@@ -17,12 +17,6 @@ pub record Along (m : List Block) (b n : ℕ) (buf0 buf : List ℕ) (i : ℕ) : 
   pub buffer : take (512 * i) buf ++ loaded (n - i) (b + i) m (drop (512 * i) buf) ≡ loaded n b m buf0
 
 module _ (m : List Block) (b n : ℕ) (buf0 : List ℕ) where
-  pub along_none : Along m b n buf0 buf0 0
-  along_none =
-      let z : b + 0 ≡ b = omega arith in
-      let y : n - 0 ≡ n = omega arith in
-      record { len = refl; moved = rw (z, y) (omega arith); buffer = rw (z, y) refl }
-
   pub along_more : (buf bs : List ℕ) (i : ℕ) → i < n → 512 * n ≤ length buf0 → length bs ≡ 512 → get_or m (b + i) bad ≡ good bs
       → Along m b n buf0 buf i → Along m b n buf0 (put_mid (512 * i) 512 buf bs) (i + 1)
   along_more buf bs i lt room l e a =

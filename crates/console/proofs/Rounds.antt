@@ -21,10 +21,6 @@ module _ {S E : Type 0} (post : S → ℕ → Bor (List ℕ) → Result S E → 
   Leads None n s left = ⊤
   Leads (Some xs) n s left = (ys : List ℕ) × (left ≡ Some ys) × ((t : S) → Serves post n s (lines ys) t → Serves post 0 start (lines xs) t)
 
-  pub led_start : (known left : Option (List ℕ)) → left ≡ prepend_known [] known → Leads known 0 start left
-  led_start None left e = tt
-  led_start (Some xs) left e = (xs, e, λ t h. h)
-
   pub led_more : (known left more : Option (List ℕ)) (n k : ℕ) (s u : S) (line : List ℕ) (shown : Bor (List ℕ)) → Leads known n s left → Took left more line
       → k ≡ next_number n → shown.now ≡ line → post s k shown (Ok u) → Leads known k u more
   led_more None left more n k s u line shown l y e same said = tt

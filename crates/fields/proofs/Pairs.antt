@@ -8,10 +8,6 @@ abbrev pub behind : List ℕ → Result (List ℕ) LineError → Result (List �
 behind bs (Ok cs) = Ok (bs ++ cs)
 behind bs (Err e) = Err e
 
-pub behind_none : (r : Result (List ℕ) LineError) → behind [] r ≡ r
-behind_none (Ok cs) = refl
-behind_none (Err e) = refl
-
 pub behind_more : (bs : List ℕ) (b : ℕ) (r : Result (List ℕ) LineError) → behind (bs ++ b ∷ []) r ≡ behind bs (with_byte (Some b) r)
 behind_more bs b (Ok cs) = ap Ok (append_assoc bs (b ∷ []) cs)
 behind_more bs b (Err e) = refl

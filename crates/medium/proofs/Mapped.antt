@@ -6,12 +6,11 @@ use Rattle.std.proofs.ByRecursion.{All-from_get_or}
 use Rattle.std.proofs.lemmas.List.{same_lists, length-set, get_or-set_same, get_or-set_other}
 use Rattle.std.proofs.lemmas.Bool.{cases_eq, cases_Bool}
 use Rattle.model.specs.declared.layout.BadRun.{BadRun}
-use Rattle.model.specs.declared.refusal.Fault.{Fault}
 use Rattle.model.specs.declared.refusal.Fault.TheVariants.{Outside, Bad}
 use Rattle.model.specs.Blocks.{Block, bad, good, block_answer, Whole, answer, filled, written, page, is_bad, block_on, mapped_blocks}
 use Rattle.medium.specs.Laws.{GoodAt}
 use Rattle.medium.specs.Stored.{with_page}
-use Rattle.medium.proofs.Calls.{way, good_not_bad, answer_outside, answer_at, good_from, read_good, write_good, refused_write}
+use Rattle.medium.proofs.Calls.{way, good_not_bad, answer_outside, answer_at, good_from, read_good, write_good}
 use Rattle.medium.proofs.Pages.{length_part, page_same, page_other}
 
 whole_on : (mem : List ℕ) (runs : List BadRun) (b p : ℕ) → 512 * p + 512 ≤ length mem → Whole (block_on mem runs b p)
@@ -79,10 +78,6 @@ module _ (mem : List ℕ) (runs : List BadRun) (at : ℕ → ℕ) (n : ℕ) wher
   read_mapped b buf ok =
       let a = accepted b (length buf) ok in
       sym (read_good (mapped_blocks mem runs at n) b (page mem (at b)) buf (good_at b a.within a.fine) a.size).1
-
-  pub refused_mapped : (b : ℕ) (bs : List ℕ) (f : Fault) → Err f ≡ answer (mapped_blocks mem runs at n) b (length bs)
-      → mapped_blocks mem runs at n ≡ written (mapped_blocks mem runs at n) b bs
-  refused_mapped b bs f e = sym (refused_write (mapped_blocks mem runs at n) b bs f (sym e))
 
   written_mapped : (b : ℕ) (bs : List ℕ) → Ok tt ≡ answer (mapped_blocks mem runs at n) b (length bs)
       → set (mapped_blocks mem runs at n) b (good bs) ≡ written (mapped_blocks mem runs at n) b bs

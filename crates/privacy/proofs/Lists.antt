@@ -35,12 +35,6 @@ module _ {A : Type 0} where
   alter_comm (x ∷ xs) (suc v) zero f g ne = refl
   alter_comm (x ∷ xs) (suc v) (suc u) f g ne = ap (λ ys. x ∷ ys) (alter_comm xs v u f g (λ e. ne (ap suc e)))
 
-  -- a change at a place, as code makes it
-  pub alter_set : (xs : List A) (v : ℕ) (f : A → A) (d : A) → alter v f xs ≡ set xs v (f (get_or xs v d))
-  alter_set [] v f d = refl
-  alter_set (x ∷ xs) zero f d = refl
-  alter_set (x ∷ xs) (suc v) f d = ap (λ ys. x ∷ ys) (alter_set xs v f d)
-
   -- two functions that agree on the element do the same
   pub alter_like : (xs : List A) (v : ℕ) (f g : A → A) (d : A) → f (get_or xs v d) ≡ g (get_or xs v d) → alter v f xs ≡ alter v g xs
   alter_like [] v f g d e = refl

@@ -23,9 +23,6 @@ pub record Far (lay : Layout) (s0 : Stick) (ts0 : List Turn) (s : Stick) (ts : L
   pub said : map reply_in (take i ts) ++ replies lay s (map event_in (drop i ts)) ≡ replies lay s0 (map event_in ts0)
 
 module _ (lay : Layout) (s0 : Stick) (ts0 : List Turn) where
-  pub far_none : Far lay s0 ts0 s0 ts0 0
-  far_none = record { len = refl; end = refl; kept = refl; said = refl }
-
   pub far_more : (s : Stick) (ts : List Turn) (i : ℕ) (d t' : Turn) (s' : Stick) → i < length ts → unhanded (event_in t') ≡ unhanded (event_in (get_or ts i d)) → stepped (reply_in t') s' ≡ step lay s (event_in (get_or ts i d))
       → Far lay s0 ts0 s ts i → Far lay s0 ts0 s' (set ts i t') (i + 1)
   far_more s ts i d t' s' h same did f =

@@ -58,10 +58,6 @@ abbrev pub behind : List BadRun → Result (List BadRun) Mistake → Result (Lis
 behind rs (Ok more) = Ok (rs ++ more)
 behind rs (Err m) = Err m
 
-pub behind_none : (r : Result (List BadRun) Mistake) → behind [] r ≡ r
-behind_none (Ok more) = refl
-behind_none (Err m) = refl
-
 behind_more : (rs : List BadRun) (r : BadRun) (more : Result (List BadRun) Mistake) → behind (rs ++ r ∷ []) more ≡ behind rs (with_run (Some r) more)
 behind_more rs r (Ok more) = ap Ok (append_assoc rs (r ∷ []) more)
 behind_more rs r (Err m) = refl
