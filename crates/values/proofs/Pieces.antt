@@ -1,10 +1,12 @@
 -- A text cut at its first mark, and runs read so far.
-use Rattle.std.proofs.Common.{◌≡◌, ℕ, ◌+◌, ◌-◌, ◌<◌, ◌≤◌, Bool, true, false, cond, not, List, [], ◌∷◌, ◌++◌, length, get_or, take, drop, is_some, Some, None, Ok, Err, Option, Result, sym, refl, ap, ◌∙◌, arith, Bor, MatchOption}
-use Rattle.std.specs.List.{onto_first, position, position_or_len}
+use Rattle.std.proofs.Common.{◌≡◌, ℕ, ◌+◌, ◌-◌, ◌<◌, ◌≤◌, true, List, [], ◌∷◌, ◌++◌, length, get_or, take, drop, is_some, Some, None, Ok, Err, Option, Result, sym, refl, ap, ◌∙◌, arith, Bor, MatchOption}
+use Rattle.std.specs.List.{position, position_or_len}
 use Rattle.std.specs.Prelude.{◌==◌}
 use Rattle.std.proofs.lemmas.Bool.Decides.{nat_tests}
-use Rattle.std.proofs.lemmas.List.{append_assoc, append-nil, at_drop_more, at_drop_all, take_rest}
-use Rattle.std.proofs.lemmas.List.Splits.{slice_split_first, length-slice_split}
+use Rattle.std.proofs.lemmas.List.{append-nil, at_drop_more, at_drop_all, take_rest}
+use Rattle.std.proofs.lemmas.List.Sums.{fails_before_first}
+use Rattle.std.proofs.lemmas.List.Splits.{slice_split_none, slice_split_first, length-slice_split}
+use Rattle.fields.proofs.Pairs.{behind, behind_more}
 use Rattle.model.specs.declared.layout.BadRun.{BadRun}
 use Rattle.values.specs.Runs.{pieces, pair_of, pair_said, with_run, pairs_said}
 use Rattle.values.specs.declared.error.Mistake.{Mistake}
@@ -13,18 +15,11 @@ use Rattle.values.specs.declared.error.Mistake.TheVariants.{MalformedValue}
 abbrev first : ℕ → List ℕ → ℕ
 first mark cs = position_or_len (λ c. c == mark) cs
 
-whole_by : (mark c : ℕ) (cs : List ℕ) (b : Bool) → (c == mark) ≡ b → (length cs ≤ first mark cs → pieces mark cs ≡ cs ∷ [])
-    → length (c ∷ cs) ≤ cond (not b) (1 + first mark cs) 0 → pieces mark (c ∷ cs) ≡ (c ∷ cs) ∷ []
-whole_by mark c cs true e ih h = absurd (omega arith)
-whole_by mark c cs false e ih h = rw e (ap (onto_first c) (ih (omega arith)))
-
 -- where no mark stands, the text is the one piece
-whole : (mark : ℕ) (cs : List ℕ) → length cs ≤ first mark cs → pieces mark cs ≡ cs ∷ []
-whole mark [] h = refl
-whole mark (c ∷ cs) h = whole_by mark c cs (c == mark) refl (whole mark cs) h
-
 pub uncut : (mark : ℕ) (cs : List ℕ) → None ≡ position (λ c. c == mark) cs → pieces mark cs ≡ cs ∷ []
-uncut mark cs e = whole mark cs (grind (arith, nat_tests))
+uncut mark cs e =
+    let past : length cs ≤ first mark cs = grind (arith, nat_tests) in
+    slice_split_none (λ c. c == mark) cs (λ k d l. fails_before_first (λ c. c == mark) cs k d (omega arith))
 
 -- the two parts at the first mark, as a slice has them
 pub parts : (mark : ℕ) (cs : List ℕ) (i : ℕ) → Some i ≡ position (λ c. c == mark) cs
@@ -53,15 +48,6 @@ pub pair_three_said : (cs start count : List ℕ) (r : Option (Bor (List ℕ) ×
 pair_three_said cs start count None e f h = absurd (let z : ◌≡◌ {A = ℕ} 0 1 = cc in omega arith)
 pair_three_said cs start count (Some p) e f h = ap pair_of (e ∙ ap (λ ws. start ∷ ws) f) ∙ pair_three 0x3A start p.0.now p.1.now
 
--- runs so far, in front of those that the rest says
-abbrev pub behind : List BadRun → Result (List BadRun) Mistake → Result (List BadRun) Mistake
-behind rs (Ok more) = Ok (rs ++ more)
-behind rs (Err m) = Err m
-
-behind_more : (rs : List BadRun) (r : BadRun) (more : Result (List BadRun) Mistake) → behind (rs ++ r ∷ []) more ≡ behind rs (with_run (Some r) more)
-behind_more rs r (Ok more) = ap Ok (append_assoc rs (r ∷ []) more)
-behind_more rs r (Err m) = refl
-
 -- the piece at n said a run, or none
 abbrev At : List (List ℕ) → ℕ → List ℕ → Type 0
 At ps n piece = (n < length ps) × (piece ≡ get_or ps n piece)
@@ -71,7 +57,7 @@ pub behind_pair : (ps : List (List ℕ)) (n : ℕ) (pair : List ℕ) (rs more : 
 behind_pair ps n pair rs more r due at said grown inv =
     let rest = pairs_said (drop (n + 1) ps) in
     ap (λ x. behind x rest) grown
-    ∙ behind_more rs r rest
+    ∙ behind_more (with_run (Some r)) rs r rest (λ ys. refl) (λ m. refl)
     ∙ ap (λ x. behind rs (with_run x rest)) (said ∙ ap pair_said at.1)
     ∙ sym (ap (behind rs) (at_drop_more pairs_said ps n pair at.0))
     ∙ inv

@@ -5,7 +5,8 @@ use Rattle.std.proofs.lemmas.Iterator.Splits.{YieldsList-from_slice_split}
 use Rattle.std.proofs.lemmas.List.{length_push}
 use Rattle.values.specs.Runs.{pieces, pairs_said, pair_said, runs_said}
 use Rattle.values.specs.declared.error.Mistake.TheVariants.{MalformedValue}
-use Rattle.values.proofs.Pieces.{behind, behind_pair, behind_stop, behind_all}
+use Rattle.fields.proofs.Pairs.{behind}
+use Rattle.values.proofs.Pieces.{behind_pair, behind_stop, behind_all}
 use Rattle.values.proofs.runs.read_runs.Goals as goal
 
 pub returns-in_err-ok_or : goal.returns-in_err-ok_or

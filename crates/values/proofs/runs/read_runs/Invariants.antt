@@ -1,6 +1,6 @@
 use Rattle.std.proofs.Common.{◌≡◌, length, drop, vec_items}
 use Rattle.values.specs.Runs.{pieces, pairs_said, runs_said}
-use Rattle.values.proofs.Pieces.{behind}
+use Rattle.fields.proofs.Pairs.{behind}
 use Rattle.values.proofs.runs.read_runs.Given as goal
 
 abbrev pub invariant-loop-pair : goal.invariant-loop-pair
