@@ -4,7 +4,7 @@ use Rattle.std.specs.Prelude.{◌==◌}
 use Rattle.std.specs.List.{slice_split, onto_first, AllByRecursion}
 use Rattle.std.specs.Str.Lines.{lines, lines_of_parts, strip_carriage_return}
 use Rattle.std.specs.Io.BufRead.{take_through, drop_through, ends_with_byte, strip_last, first_line}
-use Rattle.std.proofs.lemmas.Bool.{ne_eqb, eqb-true}
+use Rattle.std.proofs.lemmas.Bool.{ne_eqb, eqb-true, and_from, and_right}
 use Rattle.std.proofs.lemmas.Bool.Decides.{nat_tests}
 use Rattle.std.proofs.lemmas.List.{length-append, get_or_push, take_at}
 use Rattle.std.proofs.lemmas.List.Splits.{length-slice_split}
@@ -44,20 +44,13 @@ cut : (xs : List ℕ) → Ends xs ⊎ Runs xs
 cut [] = inr (record { split = refl; through = refl; rest = refl; none = tt })
 cut (x ∷ xs) = cut_by x xs (breaks x) refl (cut xs)
 
-and_false : (a b : Bool) → b ≡ false → (a && b) ≡ false
-and_false true b e = e
-and_false false b e = refl
-
-and_true : (a b : Bool) → a ≡ true → b ≡ true → (a && b) ≡ true
-and_true a b e f = rw (e, f) refl
-
 none_at : (xs : List ℕ) (k : ℕ) → AllByRecursion (λ b. breaks b ≡ false) xs → breaks (get_or xs k 0) ≡ false
 none_at [] k all = refl
 none_at (x ∷ xs) zero all = all.0
 none_at (x ∷ xs) (suc k) all = none_at xs k all.1
 
 ends_not : (xs : List ℕ) → AllByRecursion (λ b. breaks b ≡ false) xs → ends_with_byte 10 xs ≡ false
-ends_not xs all = and_false (nat_lt 0 (length xs)) (breaks (get_or xs (length xs - 1) 0)) (none_at xs (length xs - 1) all)
+ends_not xs all = and_right (nat_lt 0 (length xs)) (breaks (get_or xs (length xs - 1) 0)) (none_at xs (length xs - 1) all)
 
 some_lt : (n : ℕ) → 0 < n → nat_lt 0 n ≡ true
 some_lt n h = grind (arith, nat_tests)
@@ -66,7 +59,7 @@ ends_so : (xs : List ℕ) → ends_with_byte 10 (xs ++ 10 ∷ []) ≡ true
 ends_so xs =
     let n : length (xs ++ 10 ∷ []) ≡ length xs + 1 = length-append xs (10 ∷ []) in
     let last : get_or (xs ++ 10 ∷ []) (length (xs ++ 10 ∷ []) - 1) 0 ≡ 10 = get_or_push xs 10 0 (length (xs ++ 10 ∷ []) - 1) (omega arith) in
-    and_true (nat_lt 0 (length (xs ++ 10 ∷ []))) (breaks (get_or (xs ++ 10 ∷ []) (length (xs ++ 10 ∷ []) - 1) 0))
+    and_from (nat_lt 0 (length (xs ++ 10 ∷ []))) (breaks (get_or (xs ++ 10 ∷ []) (length (xs ++ 10 ∷ []) - 1) 0))
     (some_lt (length (xs ++ 10 ∷ [])) (omega arith)) (ap breaks last)
 
 strip_so : (xs : List ℕ) → strip_last 10 (xs ++ 10 ∷ []) ≡ xs
