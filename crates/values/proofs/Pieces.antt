@@ -49,7 +49,7 @@ pair_three_said cs start count None e f h = absurd (let z : ◌≡◌ {A = ℕ} 
 pair_three_said cs start count (Some p) e f h = ap pair_of (e ∙ ap (λ ws. start ∷ ws) f) ∙ pair_three 0x3A start p.0.now p.1.now
 
 -- the piece at n said a run, or none
-abbrev At : List (List ℕ) → ℕ → List ℕ → Type 0
+abbrev pub At : List (List ℕ) → ℕ → List ℕ → Type 0
 At ps n piece = (n < length ps) × (piece ≡ get_or ps n piece)
 
 pub behind_pair : (ps : List (List ℕ)) (n : ℕ) (pair : List ℕ) (rs more : List BadRun) (r : BadRun) (due : Result (List BadRun) Mistake)
