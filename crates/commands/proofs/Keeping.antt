@@ -1,5 +1,5 @@
 -- Blocks written one after another from a buffer, up to the first bad one.
-use Rattle.std.proofs.Common.{◌≡◌, ℕ, zero, suc, ◌+◌, ◌-◌, ◌*◌, ◌<◌, true, List, length, get_or, take, drop, Ok, Result, is_err, sym, refl, ap, ◌∙◌, subst, arith}
+use Rattle.std.proofs.Common.{◌≡◌, ℕ, zero, suc, ◌+◌, ◌-◌, ◌*◌, ◌<◌, true, List, length, get_or, take, drop, Ok, Result, is_err, sym, refl, ap, ◌∙◌, arith}
 use Rattle.std.proofs.lemmas.List.{drop-drop}
 use Rattle.model.specs.Blocks.{Block, bad, good, answer, written}
 use Rattle.model.specs.Commands.{one_more, good_run, stored}
@@ -46,16 +46,19 @@ module _ (m0 : List Block) (b n : ℕ) (ds : List ℕ) where
   pub along_end : (m : List Block) (i : ℕ) → good_run (n - i) (b + i) m ≡ 0 → Along m0 b n ds m i → (i ≡ good_run n b m0) × (m ≡ kept n b ds m0)
   along_end m i none a = (omega (arith, a.moved, none), sym (ap (λ x. stored x (b + i) (drop (512 * i) ds) m) none) ∙ a.blocks)
 
--- the next call, which writes `part`: refused, the transfer ends there; accepted, it goes on
-module _ (m0 : List Block) (b n : ℕ) (ds : List ℕ) (m : List Block) (i : ℕ) (part : List ℕ) (r : Result (Unit {0}) Fault)
-    (lt : i < n) (long : length part ≡ 512) (is : r ≡ answer m (b + i) (length part)) (a : Along m0 b n ds m i) where
-  pub write_stops : is_err r ≡ true → (i ≡ good_run n b m0) × (written m (b + i) part ≡ kept n b ds m0)
+-- the next call, which writes `part` to the block `moved` blocks on: refused, the transfer ends there; accepted, it goes on
+module _ (m0 : List Block) (b n : ℕ) (ds : List ℕ) (m : List Block) (i moved : ℕ) (part : List ℕ) (r : Result (Unit {0}) Fault)
+    (at : moved ≡ i) (lt : i < n) (long : length part ≡ 512) (is : r ≡ answer m (b + moved) (length part)) (a : Along m0 b n ds m i) where
+  here : Along m0 b n ds m moved
+  here = rw at a
+
+  pub write_stops : is_err r ≡ true → (moved ≡ good_run n b m0) × (written m (b + moved) part ≡ kept n b ds m0)
   write_stops err =
       let f = err_of r err in
-      let e = along_end m0 b n ds m i (run_bad m b n i lt (bad_seen m (b + i) (length part) f.0 long (sym is ∙ f.1))) a in
-      (e.0, refused_write m (b + i) part f.0 (sym is ∙ f.1) ∙ e.1)
+      let e = along_end m0 b n ds m moved (run_bad m b n moved (omega arith) (bad_seen m (b + moved) (length part) f.0 long (sym is ∙ f.1))) here in
+      (e.0, refused_write m (b + moved) part f.0 (sym is ∙ f.1) ∙ e.1)
 
-  pub write_goes_on : r ≡ Ok tt → part ≡ take 512 (drop (512 * i) ds) → Along m0 b n ds (written m (b + i) part) (i + 1)
+  pub write_goes_on : r ≡ Ok tt → part ≡ take 512 (drop (512 * i) ds) → Along m0 b n ds (written m (b + moved) part) (i + 1)
   write_goes_on ok cut =
-      let g = good_seen m (b + i) (length part) (sym is ∙ ok) in
-      subst (λ (p : List ℕ). Along m0 b n ds (written m (b + i) p) (i + 1)) (sym cut) (along_more m0 b n ds m g.0 i lt g.1 a)
+      let g = good_seen m (b + moved) (length part) (sym is ∙ ok) in
+      rw (cut, sym at) (along_more m0 b n ds m g.0 moved (omega arith) g.1 here)

@@ -1,5 +1,5 @@
 -- Blocks read one after another into a buffer, up to the first bad one.
-use Rattle.std.proofs.Common.{◌≡◌, ℕ, suc, ◌+◌, ◌-◌, ◌*◌, ◌<◌, ◌≤◌, true, List, [], ◌++◌, length, get_or, take, drop, Ok, Result, is_err, sym, refl, ap, ◌∙◌, arith}
+use Rattle.std.proofs.Common.{◌≡◌, ℕ, suc, ◌+◌, ◌-◌, ◌*◌, ◌<◌, ◌≤◌, true, List, [], ◌++◌, length, get_or, take, drop, Ok, Result, is_err, sym, ap, ◌∙◌, arith}
 use borrow.Rule.Slice.PartMut.{put_mid}
 use Rattle.std.proofs.lemmas.List.{append_assoc, drop-drop, take-append-drop, length-append, length-take, length-drop}
 use Rattle.std.proofs.lemmas.Slice.{take-put_mid, drop-put_mid}
@@ -64,16 +64,23 @@ putMid_back a w xs ys e =
     ap (λ y. take a xs ++ (y ++ drop w (drop a xs))) e ∙ ap (λ y. take a xs ++ y) (take-append-drop w (drop a xs)) ∙ take-append-drop a xs
 
 -- the next call, which reads into the buffer's next 512 bytes and leaves `out` there: refused, the transfer ends there; accepted, it goes on
-module _ (m : List Block) (b n : ℕ) (buf0 buf : List ℕ) (i : ℕ) (part out : List ℕ) (r : Result (Unit {0}) Fault)
-    (lt : i < n) (cut : part ≡ take 512 (drop (512 * i) buf)) (long : length part ≡ 512) (is : r ≡ answer m (b + i) (length part)) (full : out ≡ filled m (b + i) part) (a : Along m b n buf0 buf i) where
-  pub read_stops : is_err r ≡ true → (i ≡ good_run n b m) × (put_mid (512 * i) 512 buf out ≡ loaded n b m buf0)
+module _ (m : List Block) (b n : ℕ) (buf0 buf : List ℕ) (i at w : ℕ) (out : List ℕ) (r : Result (Unit {0}) Fault)
+    (lt : i < n) (room : 512 * n ≤ length buf0) (from : at ≡ 512 * i) (size : w ≡ 512) (is : r ≡ answer m (b + i) (length (take w (drop at buf))))
+    (full : out ≡ filled m (b + i) (take w (drop at buf))) (a : Along m b n buf0 buf i) where
+  abbrev part : List ℕ
+  part = take w (drop at buf)
+
+  long : length part ≡ 512
+  long = omega (arith, a.len, length-take w (drop at buf), length-drop at buf)
+
+  pub read_stops : is_err r ≡ true → (i ≡ good_run n b m) × (put_mid at w buf out ≡ loaded n b m buf0)
   read_stops err =
       let f = err_of r err in
       let e = along_end m b n buf0 buf i (run_bad m b n i lt (bad_seen m (b + i) (length part) f.0 long (sym is ∙ f.1))) a in
-      (e.0, putMid_back (512 * i) 512 buf out (full ∙ refused_read m (b + i) part f.0 (sym is ∙ f.1) ∙ cut) ∙ e.1)
+      (e.0, putMid_back at w buf out (full ∙ refused_read m (b + i) part f.0 (sym is ∙ f.1)) ∙ e.1)
 
-  pub read_goes_on : r ≡ Ok tt → 512 * n ≤ length buf0 → length out ≡ 512 → Along m b n buf0 (put_mid (512 * i) 512 buf out) (i + 1)
-  read_goes_on ok room lo =
+  pub read_goes_on : r ≡ Ok tt → length out ≡ 512 → Along m b n buf0 (put_mid at w buf out) (i + 1)
+  read_goes_on ok lo =
       let g = good_from m (b + i) (length part) (way m (b + i) (length part)) (sym is ∙ ok) in
       let there = g.1.1.1 ∙ ap good (sym (read_good m (b + i) g.1.0 part g.1.1 g.0).1 ∙ sym full) in
-      along_more m b n buf0 buf out i lt room lo there a
+      rw (from, size) (along_more m b n buf0 buf out i lt room lo there a)

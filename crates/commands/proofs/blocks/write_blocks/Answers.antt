@@ -8,32 +8,28 @@ use Rattle.commands.proofs.blocks.write_blocks.Goals as goal
 pub returns-in_err-map_err : goal.returns-in_err-map_err
 returns-in_err-map_err g c =
     let i = (zip_first c.loop-moved.moved-iterator).start in
-    let at : c.in-Some.moved ≡ i = search rules in
-    let long : length c.in-Some.part.now ≡ 512 = search rules in
-    let lt : i < c.args.span.count = search rules in
     let err : is_err c.write_block.result ≡ true = search rules in
-    let answer = rw at at c.write_block.ensures.answer in
-    let e = write_stops _ _ _ _ _ i c.in-Some.part.now c.write_block.result lt long answer c.loop-moved.invariant.2 err in
-    record { moved = search rules; short = search rules; after = rw (c.write_block.ensures.after, at) e.1 }
+    let e = write_stops _ _ c.args.span.count _ _ i c.in-Some.moved c.in-Some.part.now c.write_block.result (search rules) (search rules) (search rules)
+    c.write_block.ensures.answer c.loop-moved.invariant.2 err in
+    record { moved = search rules; short = search rules; after = c.write_block.ensures.after ∙ e.1 }
 
 pub loop-moved-preserved : goal.loop-moved-preserved
 loop-moved-preserved g c =
     let i = (zip_first c.loop-moved.moved-iterator).start in
-    let at : c.in-Some.moved ≡ i = search rules in
     let part = c.in-Some.part.now in
     let rest = chunks_exact_rest (zip_second c.next.new.self) in
     let long : length part ≡ 512 = search rules in
     let lt : i < c.args.span.count = search rules in
     let next : (zip_first c.next.new.self).start ≡ i + 1 = search rules in
     let ok : ◌≡◌ {A = _} c.write_block.result (Ok tt) = search rules in
-    let answer = rw at at c.write_block.ensures.answer in
     let parts : drop (512 * i) c.args.buffer.now ≡ part ++ rest = search rules in
     let cut : part ≡ take 512 (drop (512 * i) c.args.buffer.now) = sym (take_at part rest 512 long) ∙ ap (take 512) (sym parts) in
     let far : drop (512 * (i + 1)) c.args.buffer.now ≡ rest =
     ap (λ x. drop x c.args.buffer.now) (omega arith) ∙ sym (drop-drop 512 (512 * i) c.args.buffer.now) ∙ ap (drop 512) parts ∙ drop_at part rest 512 long in (
       search rules,
       tt,
-      rw (c.write_block.ensures.after, at, next) (write_goes_on _ _ _ _ _ i part c.write_block.result lt long answer c.loop-moved.invariant.2 ok cut),
+      rw (c.write_block.ensures.after, next)
+          (write_goes_on _ _ c.args.span.count _ _ i c.in-Some.moved part c.write_block.result (search rules) lt long c.write_block.ensures.answer c.loop-moved.invariant.2 ok cut),
       omega arith,
       search rules,
       search rules,
