@@ -1,6 +1,6 @@
 // A script served to a stick, from line to event to record.
 // Each record is written before the next line is read.
-ghost use Rattle.std.specs.Prelude.{◌≡◌, true, [], ◌∷◌, ◌++◌, is_ok, IfOk, IfSome};
+ghost use Rattle.std.specs.Prelude.{◌≡◌, true, false, None, Ok, [], ◌∷◌, ◌++◌, is_ok, IfOk, IfSome};
 ghost use Rattle.std.specs.List.{AllByRecursion};
 ghost use Rattle.std.specs.Str.Lines.{lines};
 ghost use Rattle.model.specs.Events.{step};
@@ -47,6 +47,7 @@ where
     R: Print + AllocGlobal,
     M: Medium + Drop,
     ensures said { IfOk result (λ _. is_ok (line_said line.now) ≡ true) }
+    ensures blank { line_said line.now ≡ Ok None → result ≡ Ok stick }
     ensures next { IfOk result (λ t. stick_of M.meaning t ≡ stick_after stick.layout (stick_of M.meaning stick) (line_said line.now)) }
     ensures layout { IfOk result (λ t. t.layout ≡ stick.layout) }
 {
@@ -61,12 +62,15 @@ where
 }
 
 // Serves the events of a script, and says whether it got to the end: a malformed line is told on standard error and ends it.
+// One that did not get there had a line that is not blank; no clause says more of it, nor what was written: memory and standard output have
+// no contract.
 pub fn serve_script<R, B, M>(rt: &R, source: B, stick: Running<M>) -> anyhow::Result<bool>
 where
     R: Print + Eprint + AllocGlobal,
     B: Read + Drop,
     M: Medium + Drop,
-    ensures { IfOk result (λ ended. ended ≡ true → IfSome (B.remaining source) (λ xs. AllByRecursion (λ line. is_ok (line_said line) ≡ true) (lines xs))) }
+    ensures ended { IfOk result (λ ended. ended ≡ true → IfSome (B.remaining source) (λ xs. AllByRecursion (λ line. is_ok (line_said line) ≡ true) (lines xs))) }
+    ensures stopped { IfOk result (λ ended. ended ≡ false → IfSome (B.remaining source) (λ xs. AllByRecursion (λ line. line_said line ≡ Ok None) (lines xs) → ⊥)) }
 {
     let served = serve_lines(rt, source, "", stick, |stick, _, line| {
         serve_line(rt, stick, line)
@@ -95,7 +99,7 @@ mod tests {
         let broken = serve_script(&rt, "W\nX\nP\n".as_bytes(), own_stick(rt.alloc())?);
         assert!(rt; matches!(&broken, Ok(false)));
         let torn = serve_script(&rt, b"W\n\xFF\n".as_slice(), own_stick(rt.alloc())?);
-        assert!(rt; matches!(&torn, Ok(false)));
+        assert!(rt; torn.is_err());
         Ok(())
     }
 }

@@ -1,6 +1,6 @@
 // Reads a line of the script: a letter, then hexadecimal fields, with blanks between them.
 // Every line is blank, an event or a mistake of one named kind.
-ghost use Rattle.std.specs.Prelude.{◌≡◌, [], OnOk};
+ghost use Rattle.std.specs.Prelude.{◌≡◌, [], None, Ok, OnOk};
 ghost use Rattle.std.specs.Option.{option_map};
 ghost use Rattle.events.specs.Happenings.{event_of};
 ghost use Rattle.fields.specs.Words.{words};
@@ -117,7 +117,8 @@ fn read_event(heap: Global, letter: char, fields: &[u8]) -> Result<Event, LineEr
 
 // The event that a line says, none where it is blank; its newline is not part of it.
 pub fn read_line(heap: Global, line: &[u8]) -> Result<Option<Event>, LineError>
-    ensures { Reads wants_memory (option_map event_of) result (line_said line.now) }
+    ensures said { Reads wants_memory (option_map event_of) result (line_said line.now) }
+    ensures blank { line_said line.now ≡ Ok None → result ≡ Ok None }
 {
     let Some((word, fields)) = first_word(line) else {
         return Ok(None);
