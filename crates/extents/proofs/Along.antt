@@ -1,4 +1,4 @@
-use Rattle.std.proofs.Common.{◌≡◌, ℕ, ◌+◌, ◌<◌, ◌≤◌, true, cond, ◌&&◌, ltb, leb, List, [], ◌∷◌, length, get_or, drop, Some, Option, Decides, sym, refl, ap, ◌∙◌, arith}
+use Rattle.std.proofs.Common.{◌≡◌, ℕ, ◌+◌, ◌<◌, ◌≤◌, Bool, true, cond, ◌&&◌, ltb, leb, List, [], ◌∷◌, length, get_or, drop, Some, Option, Decides, sym, refl, ap, ◌∙◌, arith}
 use Rattle.std.specs.List.{AllByRecursion, position, position_from}
 use Rattle.std.proofs.lemmas.Iterator.Adapters.{position_from-zero}
 use Rattle.std.proofs.lemmas.List.{at_drop_more}
@@ -7,11 +7,15 @@ use Rattle.std.proofs.lemmas.Bool.{and_parts, and_from, ltb-true, leb-true, lt-l
 use Rattle.model.specs.Extents.{Fitting, Apart, Sound, fitting, sound, holds, found}
 
 module _ {E : Type 0} (at len : E → ℕ) where
-  -- a step of the check
-  pub sound_step : (low end : ℕ) (xs : List E) (i : ℕ) (x : E) → i < length xs → x ≡ get_or xs i x
-      → sound at len low end (drop i xs) ≡ (fitting at len low end x && sound at len (at x + len x) end (drop (i + 1) xs))
-  sound_step low end xs i x h read =
-      at_drop_more (sound at len low end) xs i x h ∙ ap (λ y. fitting at len low end y && sound at len (at y + len y) end (drop (i + 1) xs)) (sym read)
+  -- a turn of the check: b says whether x fits
+  pub sound_turn : (low end : ℕ) (xs : List E) (i : ℕ) (x : E) (b : Bool) → i < length xs → x ≡ get_or xs i x → b ≡ fitting at len low end x
+      → sound at len low end (drop i xs) ≡ sound at len 0 end xs → (b && sound at len (at x + len x) end (drop (i + 1) xs)) ≡ sound at len 0 end xs
+  sound_turn low end xs i x b h read fits so =
+      let rest = drop (i + 1) xs in
+      ap (λ t. t && sound at len (at x + len x) end rest) fits
+      ∙ ap (λ y. fitting at len low end y && sound at len (at y + len y) end rest) read
+      ∙ sym (at_drop_more (sound at len low end) xs i x h)
+      ∙ so
 
   -- the search is the library's, with this test
   found_from : (i pos : ℕ) (xs : List E) → found at len i pos xs ≡ position_from (holds at len pos) i xs

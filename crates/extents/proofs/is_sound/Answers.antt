@@ -1,8 +1,8 @@
-use Rattle.std.proofs.Common.{◌≡◌, ◌+◌, true, false, ◌&&◌, drop, sym, ap, ◌∙◌}
+use Rattle.std.proofs.Common.{◌≡◌, ◌+◌, true, false, drop, sym, ap, ◌∙◌}
 use Rattle.std.proofs.lemmas.List.{at_drop_all}
 use Rattle.std.proofs.lemmas.Bool.Decides.{Decides-at}
 use Rattle.model.specs.Extents.{sound}
-use Rattle.extents.proofs.Along.{sound_step, sound_decides}
+use Rattle.extents.proofs.Along.{sound_turn, sound_decides}
 use Rattle.extents.proofs.is_sound.Goals as goal
 
 pub returns-then-not-is_fitting : goal.returns-then-not-is_fitting
@@ -10,10 +10,8 @@ returns-then-not-is_fitting g c =
     let at = g.E.Extent.from in
     let len = g.E.Extent.size in
     let xs = c.args.extents.now in
-    let x = c.extent-item.result in
-    let step = sound_step at len c.loop-extent.low c.args.end xs c.loop-extent.extent-index x c.loop-extent-test.true c.extent-item.is in
     let no : false ≡ sound at len 0 c.args.end xs =
-    ap (λ b. b && sound at len (at x + len x) c.args.end (drop (c.loop-extent.extent-index + 1) xs)) c.if-not-is_fitting.ensures ∙ sym step ∙ c.loop-extent.invariant in
+    sound_turn at len c.loop-extent.low c.args.end xs c.loop-extent.extent-index c.extent-item.result false c.loop-extent-test.true c.extent-item.is c.if-not-is_fitting.ensures c.loop-extent.invariant in
     record { value = no; decides = Decides-at false _ no (sound_decides at len c.args.end xs) }
 
 pub loop-extent-preserved : goal.loop-extent-preserved
@@ -21,12 +19,8 @@ loop-extent-preserved g c =
     let at = g.E.Extent.from in
     let len = g.E.Extent.size in
     let xs = c.args.extents.now in
-    let x = c.extent-item.result in
-    let step = sound_step at len c.loop-extent.low c.args.end xs c.loop-extent.extent-index x c.loop-extent-test.true c.extent-item.is in
-    let rest = drop (c.loop-extent.extent-index + 1) xs in
-    ap (λ n. sound at len n c.args.end rest) c.end_of-low.ensures
-    ∙ ap (λ b. b && sound at len (at x + len x) c.args.end rest) c.if-not-is_fitting.ensures
-    ∙ sym step ∙ c.loop-extent.invariant
+    ap (λ n. sound at len n c.args.end (drop (c.loop-extent.extent-index + 1) xs)) c.end_of-low.ensures
+    ∙ sound_turn at len c.loop-extent.low c.args.end xs c.loop-extent.extent-index c.extent-item.result true c.loop-extent-test.true c.extent-item.is c.if-not-is_fitting.ensures c.loop-extent.invariant
 
 pub returns : goal.returns
 returns g c =

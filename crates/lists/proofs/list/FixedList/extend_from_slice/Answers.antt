@@ -9,9 +9,8 @@ invariant_of-self g c =
     let n = c.self.inside.len in
     let k = c.min-fitting.result in
     let put = c.copy_from_slice.new.self in
-    let h = c.self.invariant in
     let long : length put ≡ n + k - n = search rules in
-    (omega arith, search rules, drop-put_mid n (n + k - n) xs put (n + k) (omega arith) (omega arith) long ∙ blank_behind n k g.row.N xs g.T.Blank.BLANK h.2)
+    (omega arith, search rules, drop-put_mid n (n + k - n) xs put (n + k) (omega arith) (omega arith) long ∙ blank_behind n k g.row.N xs g.T.Blank.BLANK c.self.invariant.2)
 
 pub returns-clause-value : goal.returns-clause-value
 returns-clause-value g c =
@@ -20,7 +19,6 @@ returns-clause-value g c =
     let k = c.min-fitting.result in
     let put = c.copy_from_slice.new.self in
     let more = c.args.more.now in
-    let h = c.self.invariant in
     let long : n + k ≡ n + length put = search rules in
     let what : put ≡ take k more = search rules in
     let old = length-take-le n xs (omega arith) in
