@@ -1,14 +1,11 @@
 -- What a fitted layout has of units: as many as its counts say, and no more than the table of all units has room for.
-use Rattle.std.proofs.Common.{◌≡◌, ℕ, zero, suc, ◌+◌, ◌≤◌, Bool, true, false, cond, leb, List, length, drop, refl, ap, arith}
+use Rattle.std.proofs.Common.{◌≡◌, ℕ, ◌+◌, ◌≤◌, Bool, true, false, cond, leb, List, length, drop, refl, arith}
 use Rattle.std.proofs.lemmas.Bool.{and_parts, leb-true}
 use Rattle.std.proofs.lemmas.List.{length-take}
 use Rattle.model.specs.Bytes.{byte, between}
-use Rattle.model.specs.Layouts.{sum, pairs, all_between, said_layout, layout_rules, no_layout, fitted_layout}
+use Rattle.model.specs.Layouts.{sum, all_between, said_layout, layout_rules, no_layout, fitted_layout}
+use Rattle.model.proofs.Paired.{length_pairs}
 use Rattle.layout.proofs.Sums.{few_units}
-
-length_pairs : (n : ℕ) (bs : List ℕ) → length (pairs n bs) ≡ n
-length_pairs zero bs = refl
-length_pairs (suc n) bs = ap suc (length_pairs n (drop 8 bs))
 
 pub fitted_total : (bs : List ℕ) (blocks : ℕ) → length (fitted_layout bs blocks).places ≡ sum (fitted_layout bs blocks).counts
 fitted_total bs blocks = total (layout_rules bs blocks) where

@@ -1,2 +1,4 @@
 pub mod Powering
 pub mod Altered
+pub mod Zeroed
+pub mod Paired

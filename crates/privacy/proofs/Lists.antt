@@ -4,6 +4,7 @@ use Rattle.model.specs.Blocks.{Block, bad, good, bytes_or, replaced, reaches, wr
 use Rattle.model.specs.Commands.{one_more, good_run, bytes_from, stored}
 use Rattle.model.specs.Control.{alter}
 use Rattle.model.specs.Recovery.{zeroed_block, zeroed}
+use Rattle.model.proofs.Zeroed.{zeroed_none}
 
 module _ {A : Type 0} where
   pub alter_other : (xs : List A) (v u : ℕ) (f : A → A) (d : A) → (v ≡ u → ⊥) → get_or (alter v f xs) u d ≡ get_or xs u d
@@ -67,11 +68,6 @@ module _ {A : Type 0} where
 zeroed_twice_block : (b : Block) → zeroed_block (zeroed_block b) ≡ zeroed_block b
 zeroed_twice_block bad = refl
 zeroed_twice_block (good bs) = refl
-
-pub zeroed_none : (s : ℕ) (m : List Block) → zeroed s 0 m ≡ m
-zeroed_none s [] = refl
-zeroed_none zero (b ∷ m) = refl
-zeroed_none (suc s) (b ∷ m) = ap (λ x. b ∷ x) (zeroed_none s m)
 
 -- the order in which two ranges are zeroed does not matter, wherever they lie
 pub zeroed_comm : (m : List Block) (s n t k : ℕ) → zeroed s n (zeroed t k m) ≡ zeroed t k (zeroed s n m)

@@ -18,9 +18,10 @@ use Rattle.model.specs.declared.request.Asked.{Asked}
 use Rattle.model.specs.declared.request.Put.{Put}
 use Rattle.model.specs.declared.request.Request.{Request}
 use Rattle.model.specs.declared.request.Request.TheVariants.{DeviceDescriptor, Bundle, LockData, HighestUnit, ClearJam, PutTo}
+use Rattle.model.proofs.Zeroed.{zeroed_none}
 use Rattle.privacy.specs.Claims.{but, mute, Locked}
 use Rattle.privacy.proofs.Places.{Disjoint}
-use Rattle.privacy.proofs.Lists.{alter_other, alter_same, alter_at, alter_rel, alter_alter, alter_like, replicate_getD, zeroed_comm, zeroed_twice, zeroed_none, zeroed_more, stored_outside}
+use Rattle.privacy.proofs.Lists.{alter_other, alter_same, alter_at, alter_rel, alter_alter, alter_like, replicate_getD, zeroed_comm, zeroed_twice, zeroed_more, stored_outside}
 use Rattle.privacy.proofs.Calm.{when_present_all, Calm, still, noted, wrote, shown, calm_keeps, request_calm, unlisted_calm, bulked_calm, passed_calm, power_relocks, control_next, is_unit_put}
 use Rattle.privacy.proofs.Asking.{asking, unit_put_is}
 

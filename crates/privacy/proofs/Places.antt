@@ -4,8 +4,9 @@ use Rattle.std.proofs.lemmas.Bool.{and_parts, leb-true, ltb-true}
 use Rattle.model.specs.Bulk.{place_at}
 use Rattle.model.specs.Bytes.{byte, between}
 use Rattle.model.specs.Extents.{fitting, sound}
-use Rattle.model.specs.Layouts.{Layout, place, place_start, place_count, layout_rules, said_layout, no_layout, sum, all_between, pairs}
+use Rattle.model.specs.Layouts.{Layout, place, place_start, place_count, layout_rules, said_layout, no_layout, sum, all_between}
 use Rattle.model.specs.declared.layout.Place.{Place}
+use Rattle.model.proofs.Paired.{length_pairs}
 use Rattle.privacy.specs.Claims.{fits, FitsAlways}
 use Rattle.privacy.specs.Causes.{UnitsHaveBlocks}
 use Rattle.privacy.proofs.Calm.{cond_facts}
@@ -67,10 +68,6 @@ counted : (low end : ℕ) (ps : List Place) (u : ℕ) → checked low end ps ≡
 counted low end [] u e h = absurd (omega arith)
 counted low end (p ∷ ps) zero e h = ltb-true 0 p.count (and_parts _ _ (and_parts _ _ e).0).0
 counted low end (p ∷ ps) (suc u) e h = counted (p.start + p.count) end ps u (and_parts _ _ e).1 (omega arith)
-
-length_pairs : (n : ℕ) (bs : List ℕ) → length (pairs n bs) ≡ n
-length_pairs zero bs = refl
-length_pairs (suc n) bs = ap suc (length_pairs n (drop 8 bs))
 
 pub units_have_blocks : UnitsHaveBlocks
 units_have_blocks bs blocks u =

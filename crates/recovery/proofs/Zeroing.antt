@@ -4,6 +4,7 @@ use Rattle.std.proofs.lemmas.Bool.{cases_lt}
 use Rattle.std.proofs.lemmas.Bool.Decides.{nat_tests}
 use Rattle.model.specs.Blocks.{Block, bad, good, reaches, replaced, written}
 use Rattle.model.specs.Recovery.{zeros, zeroed_block, zeroed}
+use Rattle.model.proofs.Zeroed.{zeroed_none}
 
 -- the 512 zeros that are written
 abbrev pub zs : List ℕ
@@ -24,11 +25,6 @@ written_behind b m s =
     (λ (h : s < length m). let here : reaches m s 512 ≡ true = grind (arith, nat_tests) in let there : reaches (b ∷ m) (suc s) 512 ≡ true = grind (arith, nat_tests) in rw (here, there) refl)
     (λ (h : length m ≤ s). let here : reaches m s 512 ≡ false = grind (arith, nat_tests) in let there : reaches (b ∷ m) (suc s) 512 ≡ false = grind (arith, nat_tests) in rw (here, there) refl)
     (cases_lt s (length m))
-
-pub zeroed_none : (s : ℕ) (m : List Block) → zeroed s 0 m ≡ m
-zeroed_none s [] = refl
-zeroed_none zero (b ∷ m) = refl
-zeroed_none (suc s) (b ∷ m) = ap (λ x. b ∷ x) (zeroed_none s m)
 
 -- the first of some blocks, then the others
 pub zeroed_next : (m : List Block) (s n : ℕ) → zeroed s (suc n) m ≡ zeroed (suc s) n (written m s zs)

@@ -1,5 +1,5 @@
 use Rattle.std.proofs.Common.{◌≡◌, ◌+◌, ◌-◌, ◌*◌, min, sym, arith}
-use Rattle.recovery.proofs.Zeroing.{zeroed_none}
+use Rattle.model.proofs.Zeroed.{zeroed_none}
 use Rattle.recovery.proofs.zero_step.Goals as goal
 
 pub returns-in_default : goal.returns-in_default
