@@ -7,7 +7,8 @@ use Rattle.std.specs.Io.BufRead.{take_through, drop_through, ends_with_byte, str
 use Rattle.std.proofs.lemmas.Bool.{ne_eqb, eqb-true, and_from, and_right}
 use Rattle.std.proofs.lemmas.Bool.Decides.{nat_tests}
 use Rattle.std.proofs.lemmas.List.{length-append, get_or_push, take_at}
-use Rattle.std.proofs.lemmas.List.Splits.{length-slice_split}
+use Rattle.std.proofs.lemmas.List.Elements.{All-from_recursion}
+use Rattle.std.proofs.lemmas.List.Splits.{slice_split_none, length-slice_split}
 
 abbrev breaks : ℕ → Bool
 breaks b = b == 10
@@ -20,7 +21,6 @@ record Ends (xs : List ℕ) : Type 0 where
 
 -- a text with no newline
 record Runs (xs : List ℕ) : Type 0 where
-  split : slice_split breaks xs ≡ xs ∷ []
   through : take_through 10 xs ≡ xs
   rest : drop_through 10 xs ≡ []
   none : AllByRecursion (λ b. breaks b ≡ false) xs
@@ -32,16 +32,10 @@ cut_by x xs true e h =
 cut_by x xs false e (inl h) =
     inl (record { line = x ∷ h.line; split = rw e (ap (onto_first x) h.split); through = rw e (ap (λ bs. x ∷ bs) h.through) })
 cut_by x xs false e (inr h) =
-    inr
-    (record {
-      split = rw e (ap (onto_first x) h.split);
-      through = rw e (ap (λ bs. x ∷ bs) h.through);
-      rest = rw e h.rest;
-      none = (e, h.none);
-    })
+    inr (record { through = rw e (ap (λ bs. x ∷ bs) h.through); rest = rw e h.rest; none = (e, h.none) })
 
 cut : (xs : List ℕ) → Ends xs ⊎ Runs xs
-cut [] = inr (record { split = refl; through = refl; rest = refl; none = tt })
+cut [] = inr (record { through = refl; rest = refl; none = tt })
 cut (x ∷ xs) = cut_by x xs (breaks x) refl (cut xs)
 
 none_at : (xs : List ℕ) (k : ℕ) → AllByRecursion (λ b. breaks b ≡ false) xs → breaks (get_or xs k 0) ≡ false
@@ -103,7 +97,7 @@ lines_by xs some (inl h) =
     ∙ parts_cons h.line rest (omega (arith, length-slice_split breaks (drop_through 10 xs)))
     ∙ ap (λ l. l ∷ lines_of_parts rest) (sym (first_ends xs h))
 lines_by xs some (inr h) =
-    ap lines_of_parts h.split
+    ap lines_of_parts (slice_split_none breaks xs (All-from_recursion _ xs h.none))
     ∙ ap (λ b. cond b [] (xs ∷ [])) (ne_eqb (length xs) 0 (λ e. omega arith))
     ∙ ap (λ l. l ∷ []) (sym (first_runs xs h))
     ∙ ap (λ r. first_line xs ∷ lines r) (sym h.rest)
