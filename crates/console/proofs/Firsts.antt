@@ -4,8 +4,7 @@ use Rattle.std.specs.Prelude.{◌==◌}
 use Rattle.std.specs.List.{slice_split, onto_first, AllByRecursion}
 use Rattle.std.specs.Str.Lines.{lines, lines_of_parts, strip_carriage_return}
 use Rattle.std.specs.Io.BufRead.{take_through, drop_through, ends_with_byte, strip_last, first_line}
-use Rattle.std.proofs.lemmas.Bool.{ne_eqb, eqb-true, and_from, and_right}
-use Rattle.std.proofs.lemmas.Bool.Decides.{nat_tests}
+use Rattle.std.proofs.lemmas.Bool.{ne_eqb, eqb-true, lt-ltb, and_from, and_right}
 use Rattle.std.proofs.lemmas.List.{length-append, get_or_push, take_at}
 use Rattle.std.proofs.lemmas.List.Elements.{All-from_recursion}
 use Rattle.std.proofs.lemmas.List.Splits.{slice_split_none, length-slice_split}
@@ -46,15 +45,12 @@ none_at (x ∷ xs) (suc k) all = none_at xs k all.1
 ends_not : (xs : List ℕ) → AllByRecursion (λ b. breaks b ≡ false) xs → ends_with_byte 10 xs ≡ false
 ends_not xs all = and_right (nat_lt 0 (length xs)) (breaks (get_or xs (length xs - 1) 0)) (none_at xs (length xs - 1) all)
 
-some_lt : (n : ℕ) → 0 < n → nat_lt 0 n ≡ true
-some_lt n h = grind (arith, nat_tests)
-
 ends_so : (xs : List ℕ) → ends_with_byte 10 (xs ++ 10 ∷ []) ≡ true
 ends_so xs =
     let n : length (xs ++ 10 ∷ []) ≡ length xs + 1 = length-append xs (10 ∷ []) in
     let last : get_or (xs ++ 10 ∷ []) (length (xs ++ 10 ∷ []) - 1) 0 ≡ 10 = get_or_push xs 10 0 (length (xs ++ 10 ∷ []) - 1) (omega arith) in
     and_from (nat_lt 0 (length (xs ++ 10 ∷ []))) (breaks (get_or (xs ++ 10 ∷ []) (length (xs ++ 10 ∷ []) - 1) 0))
-    (some_lt (length (xs ++ 10 ∷ [])) (omega arith)) (ap breaks last)
+    (lt-ltb 0 (length (xs ++ 10 ∷ [])) (omega arith)) (ap breaks last)
 
 strip_so : (xs : List ℕ) → strip_last 10 (xs ++ 10 ∷ []) ≡ xs
 strip_so xs =
@@ -66,7 +62,7 @@ strip_same : (xs : List ℕ) → strip_last 13 xs ≡ strip_carriage_return xs
 strip_same [] = refl
 strip_same (x ∷ xs) =
     ap (λ b. cond (b && (get_or (x ∷ xs) (length (x ∷ xs) - 1) 0 == 13)) (take (length (x ∷ xs) - 1) (x ∷ xs)) (x ∷ xs))
-    (some_lt (length (x ∷ xs)) (omega arith))
+    (lt-ltb 0 (length (x ∷ xs)) (omega arith))
 
 abbrev as_line : List ℕ → List ℕ
 as_line t = cond (ends_with_byte 10 t) (strip_last 13 (strip_last 10 t)) (strip_last 10 t)
