@@ -3,7 +3,8 @@ use Rattle.std.proofs.Common.{◌≡◌, Bool, true, false, Some, None, refl, ar
 use Rattle.model.specs.LockData.{state_number}
 use Rattle.model.specs.Puts.{UnitPut, misfit, store, match, change, erase, forget, lock_again, judged, correct}
 use Rattle.model.specs.Units.{Standing, impersonal, locked, unlocked, recovering, UnitRecord}
-use Rattle.laws.specs.StateTable.{needs_state, leads_to, is_recovering, StateTable}
+use Rattle.laws.specs.StateTable.{needs_state, leads_to, StateTable}
+use Rattle.model.specs.Recovery.{is_recovering}
 
 -- the same of a standing and a Put together
 record Case (ok : Bool) (st : Standing) (p : UnitPut) (u : UnitRecord) : Type 0 where

@@ -2,7 +2,8 @@
 use Rattle.std.specs.Prelude.{◌≡◌, ℕ, Bool, true, false, ◌≢◌}
 use Rattle.model.specs.LockData.{state_number}
 use Rattle.model.specs.Puts.{UnitPut, misfit, store, match, change, erase, forget, lock_again, turned}
-use Rattle.model.specs.Units.{Standing, impersonal, locked, unlocked, recovering, UnitRecord}
+use Rattle.model.specs.Recovery.{is_recovering}
+use Rattle.model.specs.Units.{UnitRecord}
 
 -- the state that a Put needs
 abbrev pub needs_state : UnitPut → ℕ
@@ -23,12 +24,6 @@ leads_to (change c) = 3
 leads_to (erase c) = 1
 leads_to forget = 2
 leads_to lock_again = 2
-
-abbrev pub is_recovering : Standing → Bool
-is_recovering impersonal = false
-is_recovering (locked p) = false
-is_recovering (unlocked p) = false
-is_recovering (recovering p d) = true
 
 -- an accepted Put came in the state that it needs, to a unit that was not recovering, leads to the state of the table, and is flagged;
 -- a refused one leaves the unit's standing, passphrase included, and its hint
