@@ -48,7 +48,8 @@ fn run_bench(rt: &HostRuntime) -> anyhow::Result<bool> {
     }
 }
 
-// What is turned down is told where it is found; want of memory, or a stream that fails, is told as the program ends.
+// What is turned down, and what goes wrong over a line, is told where it is found; other want of memory, or a stream that fails, as the program
+// ends.
 fn main(rt: HostRuntime) -> anyhow::Result<ExitCode> {
     if run_bench(&rt)? {
         Ok(ExitCode::SUCCESS)

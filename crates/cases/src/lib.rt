@@ -1,4 +1,5 @@
-// Examples of the rules, run as tests: each expected answer is what the rules give, by their numbers and bytes.
+// Examples of the rules, run as tests.
+// Each expected answer is what the rules give, by their numbers and bytes.
 #![tactic(auto)]
 
 #[cfg(test)]

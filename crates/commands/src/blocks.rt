@@ -1,6 +1,5 @@
 // A unit's blocks between a medium and a buffer, one 512-byte part after another.
 // The medium's fault goes on by `?` to the transfer, which adds how far it came.
-// That the buffer has room is asked by name where it is needed: it is a fact of a span and a buffer, which the type of neither can say.
 ghost use Rattle.std.specs.Prelude.{◌≡◌, ◌+◌, ◌<◌, length, IfErr};
 ghost use Rattle.model.specs.Blocks.{answer, filled, written};
 ghost use Rattle.model.specs.Commands.{good_run};
@@ -11,7 +10,7 @@ use crate::stops::Stopped;
 use medium::{Medium, PAGE};
 use model::refusal::Fault;
 
-// The block of the span so many blocks on.
+// Reads the block of the span so many blocks on.
 fn read_block<M: Medium>(medium: &M, span: Span, moved: u16, part: &mut [u8]) -> Result<(), Fault>
     requires { moved < span.count }
     ensures answer { result ≡ answer (M.meaning medium.now) (span.start + span.address + moved) (length part.old) }
@@ -31,7 +30,8 @@ fn write_block<M: Medium>(medium: &mut M, span: Span, moved: u16, part: &[u8]) -
     medium.write(block, part)
 }
 
-// Reads the blocks of the span, each into the buffer's next 512 bytes.
+// Reads the blocks of the span, each into the buffer's next 512 bytes. That it has room is asked by name, here and below: it is a fact of a
+// span and a buffer, which the type of neither can say.
 pub fn read_blocks<M: Medium>(medium: &M, span: Span, buffer: &mut [u8]) -> Result<(), Stopped>
     requires { HasRoom span buffer.old }
     ensures moved { moved_of span.count result ≡ good_run span.count (span.start + span.address) (M.meaning medium.now) }

@@ -54,7 +54,7 @@ pub fn read<M: Medium>(medium: &M, span: Span, buffer: &mut [u8]) -> Ended
     }
 }
 
-// Nothing is answered.
+// Nothing is answered. A function apart from `read`, as `write_block` is from `read_block`.
 pub fn write<M: Medium>(medium: &mut M, span: Span, buffer: &[u8]) -> Ended
     requires { HasRoom span buffer.now }
     ensures bound { result.answered ≡ 0 }

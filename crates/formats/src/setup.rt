@@ -37,7 +37,7 @@ const DEVICE: u16 = 0x0100;
 
 const CONFIGURATION: u16 = 0x0200;
 
-// The bytes of a part's head, and the most that a passphrase, a hint and access data have.
+// The bytes of a part around its text, and the most that a passphrase, a hint and access data have.
 const HEAD: u16 = 3;
 
 const PHRASE: u16 = PHRASE_BYTES as u16;
@@ -108,7 +108,7 @@ pub fn is_reading(setup: &[u8]) -> bool
     }
 }
 
-// The lengths that a Put may have: each part has its head, and a passphrase or a hint, which may be empty.
+// The lengths that a Put may have: each part has its bytes around, and a passphrase or a hint, which may be empty.
 fn put_lengths(put: Put) -> RangeInclusive<u16>
     ensures shortest { range_inclusive_start result ≡ shortest put }
     ensures longest { range_inclusive_end result ≡ longest put }

@@ -31,7 +31,8 @@ fn bulk_reply(res: Result<Completion, Refusal>) -> Reply
 }
 
 // Performs an event; its buffer holds afterwards what the stick left in it, and nothing else of it is changed.
-// Each way hands the stick back, since a power cycle takes it.
+// Each way hands the stick back, since a power cycle takes it. What stays of an event or a list is said in each clause `kept`: it is a fact of
+// two values, which no type of one can say.
 pub fn perform<M: Medium>(mut stick: Running<M>, event: &mut Event) -> (Running<M>, Reply)
     ensures bound { count_of result.1 ≤ length (buffer_of event.new) }
     ensures kept { unhanded (event_of event.new) ≡ unhanded (event_of event.old) }

@@ -8,6 +8,7 @@ pub struct Stored<const N: usize> {
     pub len: u8,
 }
 
+// That it is tidy is asked in clauses: a row is changed field by field while it is lent, and the table bounds all rows.
 impl<const N: usize> Stored<N> {
     ghost use Rattle.units.specs.Kept.{stored, tidy};
 

@@ -70,7 +70,7 @@ impl Rows {
         ensures after { self.new ≡ alter index (λ u. (turned negotiable (put_of put.entry) u).after) self.old }
     {
         // By index: of a row that a slice's get_mut lent, a proof knows nothing afterwards. One function over a closure, as interfaces have, is
-        // no plainer: it would have to ask of the closure that it keeps a row sound.
+        // no plainer: it would have to ask of the closure that it keeps a row sound, and a copy of a row would leave its passphrase behind.
         if index < self.rows.len() {
             self.rows[index].put(put, negotiable)
         } else {
