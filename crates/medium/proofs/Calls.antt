@@ -1,5 +1,5 @@
 -- The ways out of a call, over any blocks, and the laws that follow.
-use Rattle.std.proofs.Common.{◌≡◌, ℕ, ◌<◌, ◌≤◌, true, false, cond, ◌&&◌, eqb, ltb, ◌⊎◌, List, length, get_or, set, Ok, Err, Result, sym, refl, ap, ◌∙◌, subst, inl, inr, ⊎_elim, arith}
+use Rattle.std.proofs.Common.{◌≡◌, ℕ, ◌<◌, ◌≤◌, true, false, cond, ◌&&◌, eqb, ltb, ◌⊎◌, ◌↔◌, List, length, get_or, set, Ok, Err, Result, sym, refl, ap, ◌∙◌, subst, inl, inr, ⊎_elim, arith}
 use Rattle.std.specs.List.{AllByRecursion}
 use Rattle.std.proofs.lemmas.List.{length-set, get_or-set_same, get_or-set_other, set-get_or}
 use Rattle.std.proofs.ByRecursion.{All-set}
@@ -8,7 +8,7 @@ use Rattle.std.proofs.lemmas.Bool.Decides.{nat_tests}
 use Rattle.model.specs.declared.refusal.Fault.{Fault}
 use Rattle.model.specs.declared.refusal.Fault.TheVariants.{Outside, Bad}
 use Rattle.model.specs.Blocks.{Block, bad, good, reaches, block_answer, bytes_or, Whole, answer, filled, written}
-use Rattle.medium.specs.Laws.{Exactly, BadAt, GoodAt, MediumLaws}
+use Rattle.medium.specs.Laws.{BadAt, GoodAt, MediumLaws}
 
 -- a call with n bytes for block b: past the end or not 512 bytes; a bad block; a good one
 pub data Way (m : List Block) (b n : ℕ) : Type 0 where
@@ -119,16 +119,16 @@ module _ (m : List Block) (b : ℕ) (bs : List ℕ) where
   whole_after (one_set p l g e) w = subst (λ (x : List Block). AllByRecursion Whole x) (sym e) (All-set Whole m b (good bs) l w)
 
   -- at the block itself, the mark stays
-  here_after : After m b bs → Exactly (get_or (written m b bs) b bad ≡ bad) (get_or m b bad ≡ bad)
+  here_after : After m b bs → (get_or (written m b bs) b bad ≡ bad) ↔ (get_or m b bad ≡ bad)
   here_after (as_before e) = (λ h. ap (λ x. get_or x b bad) (sym e) ∙ h, λ h. ap (λ x. get_or x b bad) e ∙ h)
   here_after (one_set p l (h, is) e) =
       let there : get_or (written m b bs) b bad ≡ good bs = ap (λ x. get_or x b bad) e ∙ get_or-set_same m b (good bs) bad h in
       (λ q. absurd (good_not_bad (get_or (written m b bs) b bad) bs there q), λ q. absurd (good_not_bad (get_or m b bad) p is q))
 
-  mark_kept : (c : ℕ) → Exactly (get_or (written m b bs) c bad ≡ bad) (get_or m c bad ≡ bad)
+  mark_kept : (c : ℕ) → (get_or (written m b bs) c bad ≡ bad) ↔ (get_or m c bad ≡ bad)
   mark_kept c =
       ⊎_elim
-      (λ (e : c ≡ b). subst (λ (k : ℕ). Exactly (get_or (written m b bs) k bad ≡ bad) (get_or m k bad ≡ bad)) (sym e) (here_after (after m b bs)))
+      (λ (e : c ≡ b). subst (λ (k : ℕ). (get_or (written m b bs) k bad ≡ bad) ↔ (get_or m k bad ≡ bad)) (sym e) (here_after (after m b bs)))
       (λ (ne : c ≡ b → ⊥). let o = other_after (after m b bs) c ne in (λ h. sym o ∙ h, λ h. o ∙ h))
       (cases_eq c b)
 
@@ -138,7 +138,7 @@ module _ (m : List Block) (b : ℕ) (bs : List ℕ) where
   pub count_kept : length (written m b bs) ≡ length m
   count_kept = length_after (after m b bs)
 
-  marks_kept : (c : ℕ) → Exactly (BadAt (written m b bs) c) (BadAt m c)
+  marks_kept : (c : ℕ) → BadAt (written m b bs) c ↔ BadAt m c
   marks_kept c =
       let k = mark_kept c in
       let n = count_kept in
