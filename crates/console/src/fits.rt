@@ -44,20 +44,3 @@ pub fn inspected_memory<R: Eprint + AllocGlobal>(
         }
     }
 }
-
-#[cfg(test)]
-mod tests {
-    use super::*;
-    use std::test::Fail;
-
-    #[test]
-    fn the_own_stick(rt: HostRuntime) -> Result<(), Fail> {
-        let own = chosen_fit(&rt, "", &[]);
-        let memory = match &own {
-            Ok(Some(fit)) => inspected_memory(&rt, fit),
-            _ => Ok(None),
-        };
-        assert!(rt; matches!(&memory, Ok(Some(bytes)) if bytes.len() == 32768));
-        Ok(())
-    }
-}

@@ -77,29 +77,3 @@ where
     })?;
     Ok(served.is_some())
 }
-
-#[cfg(test)]
-mod tests {
-    use super::*;
-    use medium::{Fitted, PAGE};
-    use options::read::{OWN_BLOCKS, OWN_LAYOUT};
-    use std::test::Fail;
-    use stick::stick::power::start;
-    use straight::Straight;
-
-    fn own_stick(heap: Global) -> Result<Running<Straight>, AllocError> {
-        let memory = vec![in heap; 0u8; PAGE * OWN_BLOCKS as usize]?;
-        Ok(start(Straight::fit(memory, Vec::new(heap)), &OWN_LAYOUT))
-    }
-
-    #[test]
-    fn ends_at_a_malformed_line(rt: HostRuntime) -> Result<(), Fail> {
-        let whole = serve_script(&rt, "W\n\nP\n".as_bytes(), own_stick(rt.alloc())?);
-        assert!(rt; matches!(&whole, Ok(true)));
-        let broken = serve_script(&rt, "W\nX\nP\n".as_bytes(), own_stick(rt.alloc())?);
-        assert!(rt; matches!(&broken, Ok(false)));
-        let torn = serve_script(&rt, b"W\n\xFF\n".as_slice(), own_stick(rt.alloc())?);
-        assert!(rt; torn.is_err());
-        Ok(())
-    }
-}

@@ -41,17 +41,3 @@ where
     }
     Ok(Some(state))
 }
-
-#[cfg(test)]
-mod tests {
-    use super::*;
-    use std::test::Fail;
-
-    #[test]
-    fn each_line_once(rt: HostRuntime) -> Result<(), Fail> {
-        let lines = "one\ntwo\nthree\n".as_bytes();
-        let served = serve_lines(&rt, lines, "", 0u64, |sum, number, _| Ok(sum ^ number));
-        assert!(rt; matches!(&served, Ok(Some(0))));
-        Ok(())
-    }
-}

@@ -63,17 +63,3 @@ pub fn push_hex(heap: Global, line: &mut Vec<u8>, bytes: &[u8]) -> Result<(), Al
     line.extend_from_slice(hex::encode_upper(heap, bytes)?.as_bytes())?;
     Ok(())
 }
-
-#[cfg(test)]
-mod tests {
-    use super::*;
-    use std::test::Fail;
-
-    #[test]
-    fn pairs_follow_the_line(rt: HostRuntime) -> Result<(), Fail> {
-        let mut line = b"7 ".to_vec(rt.alloc())?;
-        push_hex(rt.alloc(), &mut line, &[0x0F, 0xA5])?;
-        assert_eq!(rt; line.as_slice(), b"7 0FA5".as_slice());
-        Ok(())
-    }
-}

@@ -4,5 +4,3 @@
 
 pub mod blank;
 pub mod list;
-#[cfg(test)]
-mod tests;

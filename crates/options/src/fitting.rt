@@ -99,18 +99,3 @@ pub fn reason(refusal: Refusal) -> &'static str
         _ => "the medium breaks a rule",
     }
 }
-
-#[cfg(test)]
-mod tests {
-    use super::*;
-    use crate::read::read_options;
-    use std::test::Fail;
-
-    #[test]
-    fn memory_of_the_own_stick(rt: HostRuntime) -> Result<(), Fail> {
-        let fit = read_options(rt.alloc(), &[]);
-        let memory = fit.map(|fit| fit.zeroed_memory(rt.alloc()));
-        assert!(rt; matches!(&memory, Ok(Ok(bytes)) if bytes.len() == 32768));
-        Ok(())
-    }
-}

@@ -70,20 +70,3 @@ pub fn handed(heap: Global, event: Event) -> Result<Event, AllocError>
         other => Ok(other),
     }
 }
-
-#[cfg(test)]
-mod tests {
-    use super::*;
-    use std::test::Fail;
-
-    #[test]
-    fn readings_get_room(rt: HostRuntime) -> Result<(), Fail> {
-        let heap = rt.alloc();
-        let room = handed_buffer(heap, &[0x80, 6, 0, 1, 0, 0, 18, 0], Vec::new(heap))?;
-        assert_eq!(rt; room.len(), 1024);
-        let data = vec![in heap; 7u8; 3]?;
-        let arriving = handed_buffer(heap, &[0x21, 0xFF, 0, 0, 0, 0, 0, 0], data)?;
-        assert_eq!(rt; arriving.len(), 3);
-        Ok(())
-    }
-}

@@ -1,6 +1,6 @@
 // A list of four bytes at its bounds, told by what is in it.
 // Each call is made once with room and once without.
-use crate::list::FixedList;
+use lists::list::FixedList;
 
 // Four bytes at most.
 type Four = FixedList<u8, 4>;
