@@ -5,13 +5,13 @@
 use console::fits::{chosen_fit, inspected_memory};
 use console::script::serve_script;
 use medium::Fitted;
+use medium::straight::Straight;
+use medium::turning::Turning;
 use options::choice::{Fit, Make};
 use options::read::USAGE;
 use std::env;
 use std::process::ExitCode;
 use stick::stick::power::start;
-use straight::Straight;
-use turning::Turning;
 
 // Fits the stick with a medium of this make, powers it up and runs the script.
 fn run<M: Fitted + Drop>(rt: &HostRuntime, fit: Fit, memory: Vec<u8>) -> anyhow::Result<bool> {

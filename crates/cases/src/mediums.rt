@@ -1,12 +1,12 @@
 // Memory that is inspected and fitted, and blocks that are read and written, over both makes of medium.
 // Numbers of pages, bad runs and lengths of buffers stand at their bounds.
+use medium::straight::Straight;
+use medium::turning::Turning;
 use medium::{Fitted, Medium};
 use model::layout::BadRun;
 use model::refusal::{Fault, Refusal, number_of};
 use std::alloc::{AllocError, Global};
 use std::test::Fail;
-use straight::Straight;
-use turning::Turning;
 
 // The number that a medium's call gives.
 fn moved(res: Result<(), Fault>) -> u8 {

@@ -4,6 +4,7 @@ use console::fits::{chosen_fit, inspected_memory};
 use console::script::serve_script;
 use console::serving::serve_lines;
 use fields::digits::push_hex;
+use medium::straight::Straight;
 use medium::{Fitted, PAGE};
 use options::read::{OWN_BLOCKS, OWN_LAYOUT, read_options};
 use record::buffer::handed_buffer;
@@ -11,7 +12,6 @@ use std::alloc::{AllocError, Global};
 use std::test::Fail;
 use stick::stick::Running;
 use stick::stick::power::start;
-use straight::Straight;
 
 fn own_stick(heap: Global) -> Result<Running<Straight>, AllocError> {
     let memory = vec![in heap; 0u8; PAGE * OWN_BLOCKS as usize]?;

@@ -1,12 +1,12 @@
 // Control transfers of a stick that has power.
 // Each tells the number, the bytes answered and what the handed buffer then holds.
 use medium::Fitted;
+use medium::straight::Straight;
 use model::refusal::Refusal;
 use std::alloc::{AllocError, Global};
 use std::test::Fail;
 use stick::stick::Running;
 use stick::stick::power::start;
-use straight::Straight;
 
 // The number that a transfer gives, and how many bytes it answers.
 fn told(res: Result<usize, Refusal>) -> (u8, usize) {

@@ -1,49 +1,28 @@
 -- Blocks on the pages of a memory: what they are one by one, which calls they take, and what a write to one page makes of them.
-use Rattle.std.proofs.Common.{◌≡◌, ℕ, ◌+◌, ◌*◌, ◌<◌, ◌≤◌, true, false, cond, ◌⊎◌, List, length, get_or, set, Ok, Err, sym, ap, ◌∙◌, subst, inl, inr, ⊎_elim, arith}
-use Rattle.std.specs.List.{AllByRecursion}
-use Rattle.std.proofs.lemmas.List.FromFn.{length-map-range_with_len, get_or-map-range_with_len}
-use Rattle.std.proofs.ByRecursion.{All-from_get_or}
+use Rattle.std.proofs.Common.{◌≡◌, ℕ, ◌+◌, ◌*◌, ◌<◌, ◌≤◌, true, false, cond, ◌⊎◌, List, length, get_or, set, Ok, Err, sym, ap, ◌∙◌, subst, inl, inr, ⊎_elim}
 use Rattle.std.proofs.lemmas.List.{same_lists, length-set, get_or-set_same, get_or-set_other}
 use Rattle.std.proofs.lemmas.Bool.{cases_eq, cases_Bool}
 use Rattle.model.specs.declared.layout.BadRun.{BadRun}
 use Rattle.model.specs.declared.refusal.Fault.TheVariants.{Outside, Bad}
-use Rattle.model.specs.Blocks.{Block, bad, good, block_answer, Whole, answer, filled, written, page, is_bad, block_on, mapped_blocks}
+use Rattle.model.specs.Blocks.{bad, good, block_answer, answer, filled, written, page, is_bad, block_on, mapped_blocks}
+use Rattle.model.proofs.Mapped.{length_mapped, block_mapped}
 use Rattle.medium.specs.Laws.{GoodAt}
 use Rattle.medium.specs.Stored.{with_page}
 use Rattle.medium.proofs.Calls.{way, good_not_bad, answer_outside, answer_at, good_from, read_good, write_good}
-use Rattle.medium.proofs.Pages.{length_part, page_same, page_other}
-
-whole_on : (mem : List ℕ) (runs : List BadRun) (b p : ℕ) → 512 * p + 512 ≤ length mem → Whole (block_on mem runs b p)
-whole_on mem runs b p h =
-    ⊎_elim
-    (λ (e : is_bad runs b ≡ true). rw e tt)
-    (λ (e : is_bad runs b ≡ false). rw e (length_part (512 * p) 512 mem h))
-    (cases_Bool (is_bad runs b))
+use Rattle.medium.proofs.Pages.{page_same, page_other}
 
 module _ (mem : List ℕ) (runs : List BadRun) (at : ℕ → ℕ) (n : ℕ) where
-  pub length_mapped : length (mapped_blocks mem runs at n) ≡ n
-  length_mapped = length-map-range_with_len (λ b. block_on mem runs b (at b)) 0 n
-
-  pub getD_mapped : (b : ℕ) (d : Block) → b < n → get_or (mapped_blocks mem runs at n) b d ≡ block_on mem runs b (at b)
-  getD_mapped b d h = get_or-map-range_with_len (λ k. block_on mem runs k (at k)) 0 n b b d h (omega arith)
-
-  pub whole_mapped : ((b : ℕ) → b < n → 512 * at b + 512 ≤ length mem) → AllByRecursion Whole (mapped_blocks mem runs at n)
-  whole_mapped room =
-      All-from_get_or Whole (mapped_blocks mem runs at n) bad
-      (λ b i. let h : b < n = subst (λ (x : ℕ). b < x) length_mapped i in
-      subst (λ (x : Block). Whole x) (sym (getD_mapped b bad h)) (whole_on mem runs b (at b) (room b h)))
-
   inside : (b : ℕ) → b < n → b < length (mapped_blocks mem runs at n)
-  inside b h = subst (λ (x : ℕ). b < x) (sym length_mapped) h
+  inside b h = subst (λ (x : ℕ). b < x) (sym (length_mapped mem runs at n)) h
 
   -- the three answers to a call
   pub call_outside : (b l : ℕ) → (n ≤ b) ⊎ ((b < n) × (l ≡ 512 → ⊥)) → Err Outside ≡ answer (mapped_blocks mem runs at n) b l
   call_outside b l h =
       sym (answer_outside (mapped_blocks mem runs at n) b l
-      (⊎_elim (λ (le : n ≤ b). inl (subst (λ (x : ℕ). x ≤ b) (sym length_mapped) le)) (λ (p : (b < n) × (l ≡ 512 → ⊥)). inr p.1) h))
+      (⊎_elim (λ (le : n ≤ b). inl (subst (λ (x : ℕ). x ≤ b) (sym (length_mapped mem runs at n)) le)) (λ (p : (b < n) × (l ≡ 512 → ⊥)). inr p.1) h))
 
   pub call_at : (b l : ℕ) → b < n → l ≡ 512 → block_answer (block_on mem runs b (at b)) ≡ answer (mapped_blocks mem runs at n) b l
-  call_at b l h e = sym (answer_at (mapped_blocks mem runs at n) b l (inside b h) e ∙ ap block_answer (getD_mapped b bad h))
+  call_at b l h e = sym (answer_at (mapped_blocks mem runs at n) b l (inside b h) e ∙ ap block_answer (block_mapped mem runs at n b bad h))
 
   pub call_bad : (b l : ℕ) → b < n → l ≡ 512 → is_bad runs b ≡ true → Err Bad ≡ answer (mapped_blocks mem runs at n) b l
   call_bad b l h e t = ap (λ x. block_answer (cond x bad (good (page mem (at b))))) (sym t) ∙ call_at b l h e
@@ -68,11 +47,11 @@ module _ (mem : List ℕ) (runs : List BadRun) (at : ℕ → ℕ) (n : ℕ) wher
   accepted b l ok =
       let m = mapped_blocks mem runs at n in
       let g = good_from m b l (way m b l) (sym ok) in
-      let h : b < n = subst (λ (x : ℕ). b < x) length_mapped g.1.1.0 in
-      record { within = h; size = g.0; fine = not_bad b g.1.0 (sym (getD_mapped b bad h) ∙ g.1.1.1) }
+      let h : b < n = subst (λ (x : ℕ). b < x) (length_mapped mem runs at n) g.1.1.0 in
+      record { within = h; size = g.0; fine = not_bad b g.1.0 (sym (block_mapped mem runs at n b bad h) ∙ g.1.1.1) }
 
   good_at : (b : ℕ) → b < n → is_bad runs b ≡ false → GoodAt (mapped_blocks mem runs at n) b (page mem (at b))
-  good_at b h f = (inside b h, getD_mapped b bad h ∙ ap (λ x. cond x bad (good (page mem (at b)))) f)
+  good_at b h f = (inside b h, block_mapped mem runs at n b bad h ∙ ap (λ x. cond x bad (good (page mem (at b)))) f)
 
   pub read_mapped : (b : ℕ) (buf : List ℕ) → Ok tt ≡ answer (mapped_blocks mem runs at n) b (length buf) → page mem (at b) ≡ filled (mapped_blocks mem runs at n) b buf
   read_mapped b buf ok =
@@ -101,7 +80,7 @@ write_mapped mem runs at at' n b p bs ok room here there =
     (length_mapped mem' runs at' n ∙ sym (length-set m b (good bs) ∙ length_mapped mem runs at n))
     (λ k d j.
     let lt : k < n = subst (λ (x : ℕ). k < x) (length_mapped mem' runs at' n) j in
-    getD_mapped mem' runs at' n k d lt ∙
+    block_mapped mem' runs at' n k d lt ∙
     ⊎_elim
     (λ (e : k ≡ b).
     ap (λ x. block_on mem' runs x (at' x)) e
@@ -114,7 +93,7 @@ write_mapped mem runs at at' n b p bs ok room here there =
     let o = there k lt ne in
     ap (λ x. block_on mem' runs k x) o.0
     ∙ ap (λ x. cond (is_bad runs k) bad (good x)) (page_other mem bs p room a.size (at k) o.1)
-    ∙ sym (getD_mapped mem runs at n k d lt)
+    ∙ sym (block_mapped mem runs at n k d lt)
     ∙ sym (get_or-set_other m b k (good bs) d ne))
     (cases_eq k b))
     ∙ written_mapped mem runs at n b bs ok
@@ -126,4 +105,4 @@ mapped_same mem runs at at' n same =
     (length_mapped mem runs at n ∙ sym (length_mapped mem runs at' n))
     (λ k d j.
     let lt : k < n = subst (λ (x : ℕ). k < x) (length_mapped mem runs at n) j in
-    getD_mapped mem runs at n k d lt ∙ ap (block_on mem runs k) (same k lt) ∙ sym (getD_mapped mem runs at' n k d lt))
+    block_mapped mem runs at n k d lt ∙ ap (block_on mem runs k) (same k lt) ∙ sym (block_mapped mem runs at' n k d lt))

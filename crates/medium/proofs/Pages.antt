@@ -1,14 +1,11 @@
 -- Pages of 512 bytes in a memory, and a write to one of them.
 use Rattle.std.proofs.Common.{◌≡◌, ℕ, ◌+◌, ◌-◌, ◌*◌, ◌<◌, ◌≤◌, List, ◌++◌, length, take, drop, sym, ap, ◌∙◌, subst, ⊎_elim, arith}
 use borrow.Rule.Slice.PartMut.{put_mid}
-use Rattle.std.proofs.lemmas.List.{length-take, length-drop, drop-take, drop-drop}
+use Rattle.std.proofs.lemmas.List.{drop-take, drop-drop}
 use Rattle.std.proofs.lemmas.Slice.{between-put_mid, drop-put_mid, take-put_mid_below}
 use Rattle.std.proofs.lemmas.Bool.{cases_lt, cond-true, and_from, eq-eqb, le-leb}
 use Rattle.model.specs.Blocks.{page}
 use Rattle.medium.specs.Stored.{with_page, repaged}
-
-pub length_part : (a w : ℕ) (xs : List ℕ) → a + w ≤ length xs → length (take w (drop a xs)) ≡ w
-length_part a w xs h = simp (length-take, length-drop) (omega arith)
 
 -- a write to the part of w elements from a on, seen at that part and at another
 part_same : (a w : ℕ) (xs ys : List ℕ) → a + w ≤ length xs → length ys ≡ w → take w (drop a (put_mid a w xs ys)) ≡ ys

@@ -1,2 +1,5 @@
 pub mod Laws
 pub mod Stored
+pub mod Straight
+pub mod PageMap
+pub mod Turning

@@ -7,6 +7,8 @@ pub mod bad_runs;
 pub mod laws;
 pub mod rules;
 pub mod store;
+pub mod straight;
+pub mod turning;
 
 ghost use Rattle.std.specs.Prelude.{◌≡◌, ℕ, ◌≤◌, List, length, if◌then◌else◌, Ok, Err};
 ghost use Rattle.std.specs.List.{AllByRecursion};

@@ -7,13 +7,13 @@ ghost use Rattle.options.specs.Fits.{spare, memory_said, inspected, memory_fit, 
 ghost use Rattle.options.specs.declared.choice.FitError.TheVariants.{Refused, OutOfMemory};
 
 use crate::choice::{Fit, FitError, Make};
+use medium::straight::Straight;
+use medium::turning::Turning;
 use medium::{Fitted, MOST_BLOCKS, PAGE};
 use model::refusal::Refusal;
 use std::alloc::{AllocError, Global};
 use std::error::Error;
 use std::fmt;
-use straight::Straight;
-use turning::Turning;
 
 // The pages that a make needs more than blocks.
 fn spare_pages(make: Make) -> u8

@@ -5,6 +5,8 @@
 use console::fits::{chosen_fit, inspected_memory};
 use console::serving::serve_lines;
 use lines::line::read_line;
+use medium::straight::Straight;
+use medium::turning::Turning;
 use medium::{Fitted, Medium};
 use options::choice::{Fit, Make};
 use record::buffer::handed;
@@ -13,10 +15,8 @@ use std::alloc::Global;
 use std::io::Write;
 use std::process::ExitCode;
 use std::{env, fs};
-use straight::Straight;
 use trial::side_by_side::side_by_side;
 use trial::turn::Turn;
-use turning::Turning;
 
 const USAGE: &str = "usage: twins FIRST SECOND COMMON [OPTIONS] [-- OPTIONS]
 FIRST and SECOND set the two sticks up, COMMON is for both; the options are the bench's, before -- for the first stick, behind it for the second";

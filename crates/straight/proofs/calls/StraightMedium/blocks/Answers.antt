@@ -1,6 +1,0 @@
-use Rattle.std.proofs.Common.{sym}
-use Rattle.medium.proofs.Mapped.{length_mapped}
-use Rattle.straight.proofs.calls.StraightMedium.blocks.Goals as goal
-
-pub returns : goal.returns
-returns c = let s = c.args.self.now.store in sym (length_mapped s.memory.items s.runs.items (λ b. b) s.count)

@@ -1,5 +1,0 @@
-use Rattle.std.proofs.Common.{rules}
-use Rattle.turning.proofs.pages.identity.Goals as goal
-
-pub returns-clause-places : goal.returns-clause-places
-returns-clause-places c b h = let e = c.from_fn.ensures.items.at b 0 h in search rules
