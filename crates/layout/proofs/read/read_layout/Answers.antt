@@ -7,9 +7,3 @@ returns-then-not-are_served c = grind (arith, common_steps)
 
 pub returns-then-product_base-ne0 : goal.returns-then-product_base-ne0
 returns-then-product_base-ne0 c = grind (arith, common_steps)
-
-pub returns-then-not-is_sound : goal.returns-then-not-is_sound
-returns-then-not-is_sound c = grind (arith, common_steps)
-
-pub returns : goal.returns
-returns c = grind (arith, common_steps)
