@@ -42,13 +42,13 @@ pub fn read_access(data: &[u8]) -> Result<Access, Refusal>
         g1,
         g2,
         g3,
-    ] = data
+    ] = *data
     else {
         return Err(Refusal::Malformed);
     };
     Ok(Access {
-        target: Ids::try_from(*subclass)?,
-        idle_ms: u32::from_le_bytes([*i0, *i1, *i2, *i3]),
-        gone_ms: u32::from_le_bytes([*g0, *g1, *g2, *g3]),
+        target: Ids::try_from(subclass)?,
+        idle_ms: u32::from_le_bytes([i0, i1, i2, i3]),
+        gone_ms: u32::from_le_bytes([g0, g1, g2, g3]),
     })
 }

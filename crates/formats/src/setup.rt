@@ -71,30 +71,30 @@ pub fn read_setup(setup: &[u8]) -> Result<Asked, Refusal>
         index_high,
         length_low,
         length_high,
-    ] = setup
+    ] = *setup
     else {
         return Err(Refusal::Unlisted);
     };
-    let value = u16::from_le_bytes([*value_low, *value_high]);
-    let interface = *index_low;
+    let value = u16::from_le_bytes([value_low, value_high]);
+    let interface = index_low;
     let address = UnitAddress {
         interface,
-        unit: *value_high,
+        unit: value_high,
     };
-    let request = match (*kind, *code) {
-        (STANDARD_IN, GET_DESCRIPTOR) if interface == 0 && *index_high == 0 => descriptor_asked(
+    let request = match (kind, code) {
+        (STANDARD_IN, GET_DESCRIPTOR) if interface == 0 && index_high == 0 => descriptor_asked(
             value,
         )?,
-        (CLASS_IN, GET_LOCK_IN) if *value_low == 0 => Request::LockData { address },
+        (CLASS_IN, GET_LOCK_IN) if value_low == 0 => Request::LockData { address },
         (CLASS_IN, GET_HIGHEST_UNIT) if value == 0 => Request::HighestUnit { interface },
         (CLASS_OUT, CLEAR_JAM) if value == 0 => Request::ClearJam { interface },
         (CLASS_OUT, PUT) => Request::PutTo {
-            put: Put::try_from(*value_low)?,
+            put: Put::try_from(value_low)?,
             address,
         },
         _ => return Err(Refusal::Unlisted),
     };
-    let length = u16::from_le_bytes([*length_low, *length_high]);
+    let length = u16::from_le_bytes([length_low, length_high]);
     Ok(Asked { request, length })
 }
 

@@ -3,7 +3,7 @@ use Rattle.std.proofs.Common.{◌≡◌, ℕ, ◌+◌, ◌≤◌, Bool, true, fa
 use Rattle.std.proofs.lemmas.Bool.{and_parts, leb-true}
 use Rattle.std.proofs.lemmas.List.{length-take}
 use Rattle.model.specs.Bytes.{byte, between}
-use Rattle.model.specs.Layouts.{sum, all_between, said_layout, layout_rules, no_layout, fitted_layout}
+use Rattle.model.specs.Layouts.{sum, all_between, said_layout, own_rules, layout_rules, no_layout, fitted_layout}
 use Rattle.model.proofs.Paired.{length_pairs}
 use Rattle.layout.proofs.Sums.{few_units}
 
@@ -19,7 +19,7 @@ fitted_few bs blocks = few (layout_rules bs blocks) refl where
   few true e =
       let n = byte bs 6 in
       let cs = (said_layout bs).counts in
-      let p = and_parts (between 1 4 n) _ e in
+      let p = and_parts (between 1 4 n) _ (and_parts (own_rules bs) _ e).0 in
       let low : n ≤ 4 = leb-true n 4 (and_parts (leb 1 n) (leb n 4) p.0).1 in
       let q = and_parts (all_between 1 4 cs) _ p.1 in
       omega (arith, length_pairs (sum cs) (drop (7 + n) bs), few_units cs q.0, length-take n (drop 7 bs))

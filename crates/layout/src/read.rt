@@ -1,9 +1,9 @@
 // Layout bytes: idVendor, product base, bcdDevice, the number of interfaces, a unit count for each, a place for each unit.
 // A layout that breaks a rule is refused by inspection, and fitted as a stick with no interface.
-ghost use Rattle.std.specs.Prelude.{◌≡◌, ◌*◌, ◌/◌, ◌≤◌, true, ◌&&◌, length, if◌then◌else◌, Ok, Err, IsTrue, nat_lt};
+ghost use Rattle.std.specs.Prelude.{◌≡◌, ◌*◌, ◌/◌, ◌≤◌, true, ◌&&◌, length, if◌then◌else◌, Ok, Err, IsTrue, Some, None, nat_lt};
 ghost use Rattle.model.specs.Bytes.{le32};
 ghost use Rattle.model.specs.Extents.{sound};
-ghost use Rattle.model.specs.Layouts.{place, place_start, place_count, pairs, sum, all_between, layout_rules, said_layout, no_layout, fitted_layout};
+ghost use Rattle.model.specs.Layouts.{place, place_start, place_count, pairs, sum, all_between, own_rules, layout_rules, said_layout, no_layout, fitted_layout};
 
 use crate::places::units_of;
 use crate::table::Layout;
@@ -57,36 +57,39 @@ fn are_served(counts: &[u8]) -> bool
             .all(|count| (1..=MOST_UNITS_EACH).contains(count))
 }
 
-// The layout that the bytes say, or a refusal where they break a rule.
-fn read_layout(bytes: &[u8], blocks: u32) -> Result<Layout, Refusal>
-    ensures { result ≡ (if layout_rules bytes.now blocks then Ok (said_layout bytes.now) else Err Refusal.Layout) }
+// The layout that the bytes say, where they keep the rules that need no medium.
+fn said_layout(bytes: &[u8]) -> Option<Layout>
+    ensures { result ≡ (if own_rules bytes.now then Some (said_layout bytes.now) else None) }
 {
     let [v0, v1, b0, b1, r0, r1, n, rest @ ..] = bytes else {
-        return Err(Refusal::Layout);
+        return None;
     };
-    let (counts, pairs) = rest
-        .split_at_checked(usize::from(*n))
-        .ok_or(Refusal::Layout)?;
+    let (counts, pairs) = rest.split_at_checked(usize::from(*n))?;
     if !are_served(counts) {
-        return Err(Refusal::Layout);
+        return None;
     }
-    let unit_counts = FixedList::from_slice(counts).ok_or(Refusal::Layout)?;
-    let unit_count = units_of(counts);
+    let unit_counts = FixedList::from_slice(counts)?;
     let product_base = u16::from_le_bytes([*b0, *b1]);
-    if product_base % PRODUCT_STEP != 0 || pairs.len() != PLACE_BYTES * unit_count {
-        return Err(Refusal::Layout);
+    if product_base % PRODUCT_STEP != 0 || pairs.len() != PLACE_BYTES * units_of(counts) {
+        return None;
     }
-    let places = read_places(pairs);
-    if !is_sound(&places, blocks) {
-        return Err(Refusal::Layout);
-    }
-    Ok(Layout {
+    Some(Layout {
         vendor: u16::from_le_bytes([*v0, *v1]),
         product_base,
         release: u16::from_le_bytes([*r0, *r1]),
         unit_counts,
-        places,
+        places: read_places(pairs),
     })
+}
+
+// The layout that the bytes say, or a refusal where they break a rule on a medium of so many blocks.
+fn read_layout(bytes: &[u8], blocks: u32) -> Result<Layout, Refusal>
+    ensures { result ≡ (if layout_rules bytes.now blocks then Ok (said_layout bytes.now) else Err Refusal.Layout) }
+{
+    match said_layout(bytes) {
+        Some(layout) if is_sound(&layout.places, blocks) => Ok(layout),
+        _ => Err(Refusal::Layout),
+    }
 }
 
 // Inspects layout bytes for a medium of so many blocks.

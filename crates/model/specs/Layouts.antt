@@ -44,16 +44,19 @@ abbrev pub all_between : ℕ → ℕ → List ℕ → Bool
 all_between low high [] = true
 all_between low high (n ∷ ns) = between low high n && all_between low high ns
 
--- the rules on a medium of so many blocks: 1 to 4 interfaces, 1 to 4 units each, a base that is a multiple of 16, no byte missing or
--- left over, and places that pass the check against the medium's end
-abbrev pub layout_rules : List ℕ → ℕ → Bool
-layout_rules bs blocks =
+-- the rules that the bytes keep by themselves: 1 to 4 interfaces, 1 to 4 units each, a base that is a multiple of 16, no byte missing or
+-- left over
+abbrev pub own_rules : List ℕ → Bool
+own_rules bs =
     let said = said_layout bs in
     between 1 4 (byte bs 6)
     && (all_between 1 4 said.counts
     && (said.base % 16 == 0
-    && (length bs == 7 + byte bs 6 + 8 * sum said.counts
-    && sound place_start place_count 0 blocks said.places)))
+    && length bs == 7 + byte bs 6 + 8 * sum said.counts))
+
+-- on a medium of so many blocks the places pass the check against its end too
+abbrev pub layout_rules : List ℕ → ℕ → Bool
+layout_rules bs blocks = own_rules bs && sound place_start place_count 0 blocks (said_layout bs).places
 
 -- a stick fitted against the rules has no interface, and zeros
 abbrev pub no_layout : Layout

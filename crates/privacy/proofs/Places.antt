@@ -1,10 +1,10 @@
 -- Places that pass the check lie apart.
-use Rattle.std.proofs.Common.{◌≡◌, ℕ, zero, suc, ◌+◌, ◌*◌, ◌%◌, ◌<◌, ◌≤◌, Bool, true, ◌&&◌, eqb, ltb, leb, ◌⊎◌, List, [], ◌∷◌, length, get_or, drop, sym, refl, ap, subst, inl, inr, arith}
+use Rattle.std.proofs.Common.{◌≡◌, ℕ, zero, suc, ◌+◌, ◌<◌, ◌≤◌, Bool, true, ◌&&◌, ltb, leb, ◌⊎◌, List, [], ◌∷◌, length, get_or, drop, sym, refl, ap, subst, inl, inr, arith}
 use Rattle.std.proofs.lemmas.Bool.{and_parts, leb-true, ltb-true}
 use Rattle.model.specs.Bulk.{place_at}
-use Rattle.model.specs.Bytes.{byte, between}
+use Rattle.model.specs.Bytes.{byte}
 use Rattle.model.specs.Extents.{fitting, sound}
-use Rattle.model.specs.Layouts.{Layout, place, place_start, place_count, layout_rules, said_layout, no_layout, sum, all_between}
+use Rattle.model.specs.Layouts.{Layout, place, place_start, place_count, own_rules, layout_rules, said_layout, no_layout, sum}
 use Rattle.model.specs.declared.layout.Place.{Place}
 use Rattle.model.proofs.Paired.{length_pairs}
 use Rattle.privacy.specs.Claims.{fits, FitsAlways}
@@ -53,14 +53,11 @@ pub fit_disjoint : (lay : Layout) (blocks : ℕ) → fits lay blocks ≡ true �
 fit_disjoint lay blocks e = record { apart = λ u v ne. lie_apart 0 blocks lay.places u v e ne }
 
 -- a layout that was refused has no places
-last_part : (a b c d e : Bool) → (a && (b && (c && (d && e)))) ≡ true → e ≡ true
-last_part a b c d e h = (and_parts d e (and_parts c (d && e) (and_parts b (c && (d && e)) (and_parts a (b && (c && (d && e))) h).1).1).1).1
-
 pub fits_always : FitsAlways
 fits_always bs blocks =
     let said = said_layout bs in
     cond_facts (λ lay. fits lay blocks ≡ true) (layout_rules bs blocks) said no_layout
-    (last_part (between 1 4 (byte bs 6)) (all_between 1 4 said.counts) (eqb (said.base % 16) 0) (eqb (length bs) (7 + byte bs 6 + 8 * sum said.counts)) (fits said blocks))
+    (λ e. (and_parts (own_rules bs) (fits said blocks) e).1)
     (λ e. refl)
 
 -- a place that passes the check has a block
@@ -74,7 +71,7 @@ units_have_blocks bs blocks u =
     let said = said_layout bs in
     cond_facts (λ lay. u < sum lay.counts → 0 < (place_at lay u).count) (layout_rules bs blocks) said no_layout
     (λ e h. counted 0 blocks said.places u
-    (last_part (between 1 4 (byte bs 6)) (all_between 1 4 said.counts) (eqb (said.base % 16) 0) (eqb (length bs) (7 + byte bs 6 + 8 * sum said.counts)) (fits said blocks) e)
+    (and_parts (own_rules bs) (fits said blocks) e).1
     (subst (λ n. u < n) (sym (length_pairs (sum said.counts) (drop (7 + byte bs 6) bs))) h))
     (λ e h. absurd (omega arith))
 

@@ -11,3 +11,6 @@ returns-clause-bound c = let w = sum_within c.args.self.now.counts c.args.interf
 
 pub returns-clause-few : goal.returns-clause-few
 returns-clause-few c = let w = sum_within c.args.self.now.counts c.args.interface in grind (arith, common_steps, w)
+
+pub returns-clause-value : goal.returns-clause-value
+returns-clause-value c = grind (arith, common_steps)

@@ -1,4 +1,5 @@
 use Rattle.std.proofs.Common.{◌≡◌, ◌+◌, ◌-◌, ◌++◌, min, length, take, ap, ◌∙◌, arith, rules, length-take-le}
+use Rattle.std.proofs.lemmas.Grind.{common_steps}
 use Rattle.std.proofs.lemmas.Slice.{take-put_mid, drop-put_mid}
 use Rattle.lists.proofs.Fronts.{blank_behind, take_fitting}
 use Rattle.lists.proofs.list.FixedList.extend_from_slice.Goals as goal
@@ -27,3 +28,6 @@ returns-clause-value g c =
     ∙ ap (λ ys. take n xs ++ ys) what
     ∙ take_fitting g.row.N k (take n xs) more fits (omega (arith, old))
     ∙ ap (λ ys. take g.row.N (ys ++ more)) c.self.view_is
+
+pub returns-clause-whole : goal.returns-clause-whole
+returns-clause-whole g c = grind (arith, common_steps)
