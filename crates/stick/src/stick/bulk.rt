@@ -1,7 +1,8 @@
 // Bulk commands of a running stick.
 // A command is weighed before anything is touched; a wrapper that is not in order jams its interface, and nothing else does.
 ghost use Rattle.std.specs.Prelude.{◌≡◌, ℕ, ◌<◌, ◌≤◌, length, IfOk};
-ghost use Rattle.model.specs.Bulk.{bulked, jam, on_interface, wrapped};
+ghost use Rattle.model.specs.Bulk.{addressed, bulked, jam, on_interface, wrapped};
+ghost use Rattle.model.specs.Control.{find_unit};
 ghost use Rattle.model.specs.Wrappers.{cbw_in};
 ghost use Rattle.model.specs.declared.refusal.Refusal.TheVariants.{BadCommandBlock};
 ghost use Rattle.stick.specs.Completions.{bulk_of, handed_back, unit_commanded};
@@ -52,7 +53,23 @@ impl<M: Medium> Running<M> {
         Refusal::BadCommandBlock
     }
 
-    // The wrapper for an interface that there is and that is not jammed. An absent unit makes it one that is not in order.
+    // A wrapper that is in order, by the unit that it names. An absent unit makes it one that is not.
+    fn address(&mut self, interface: u8, cbw: Cbw, buffer: &mut [u8]) -> Result<Completion, Refusal>
+        ensures bulk { bulk_of result buffer.new (stick_of M.meaning self.new) ≡ handed_back buffer.old (addressed self.old.layout interface (find_unit self.old.layout interface cbw.unit) cbw buffer.old (stick_of M.meaning self.old)) }
+        ensures layout { self.new.layout ≡ self.old.layout }
+        ensures bound { IfOk result (λ c. c.answered ≤ length buffer.new) }
+    {
+        let address = UnitAddress {
+            interface,
+            unit: cbw.unit,
+        };
+        match self.layout.find_unit(address) {
+            Some(index) => self.command(index, cbw, buffer),
+            None => Err(self.jam(interface)),
+        }
+    }
+
+    // The wrapper for an interface that there is and that is not jammed.
     fn unwrap(
         &mut self,
         interface: u8,
@@ -63,17 +80,10 @@ impl<M: Medium> Running<M> {
         ensures layout { self.new.layout ≡ self.old.layout }
         ensures bound { IfOk result (λ c. c.answered ≤ length buffer.new) }
     {
-        let Ok(cbw) = read_cbw(cbw) else {
-            return Err(self.jam(interface));
-        };
-        let address = UnitAddress {
-            interface,
-            unit: cbw.unit,
-        };
-        let Some(index) = self.layout.find_unit(address) else {
-            return Err(self.jam(interface));
-        };
-        self.command(index, cbw, buffer)
+        match read_cbw(cbw) {
+            Ok(cbw) => self.address(interface, cbw, buffer),
+            Err(_) => Err(self.jam(interface)),
+        }
     }
 
     // A command of a stick that is present.
