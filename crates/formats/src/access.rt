@@ -19,7 +19,7 @@ const ACCESS_LENGTH: u8 = ACCESS_BYTES as u8;
 #[derive(Clone, Copy)]
 pub struct Access {
     pub target: Ids,
-    // how long the interface idles, and then is gone, before it presents the target
+    // how long the stick idles, and then is gone, before the interface presents the target
     pub idle_ms: u32,
     pub gone_ms: u32,
 }

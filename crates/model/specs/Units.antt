@@ -11,7 +11,7 @@ pub data Standing : Type 0 where
   unlocked : List ℕ → Standing
   recovering : List ℕ → ℕ → Standing
 
--- standing, hint, misses, whether the last Put to the unit was accepted, and sense
+-- standing, hint, misses, the accepted flag (bPutAccepted in Lock Data), and sense
 pub record UnitRecord : Type 0 where
   pub standing : Standing
   pub hint : List ℕ

@@ -1,4 +1,5 @@
 // What a command block wrapper (CBW) brings, and how its command ends.
+// Of a command only its kind and its numbers are kept; the bytes that it ignores are gone.
 ghost use Rattle.std.specs.Prelude.{◌≡◌, ok_or};
 ghost use Rattle.model.specs.Wrappers.{direction_told, status_number};
 ghost use Rattle.model.specs.declared.refusal.Refusal.TheVariants.{BadCommandBlock};
@@ -38,8 +39,8 @@ pub enum Command {
     // READ(10) and WRITE(10), with an address in the unit and a number of blocks
     Read { address: u32, count: u16 },
     Write { address: u32, count: u16 },
-    // an unlisted command, or one with an option that is not served: it fails with this sense. No error: as the others it has a unit, and
-    // is weighed against its state first
+    // an unlisted command, or one with an option that is not served. No error: as the others it has a unit, and ends there with a CSW and
+    // this sense, whatever state the unit is in
     Rejected { sense: Sense },
 }
 

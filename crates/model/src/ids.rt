@@ -1,4 +1,5 @@
 // The identity that an interface presents to the host, and what else changes of an interface.
+// IDs change when power comes and when an interface change ends, and at no other time.
 ghost use Rattle.std.specs.Prelude.{◌≡◌, ok_or};
 ghost use Rattle.model.specs.Identities.{ids_subclass, is_negotiable};
 ghost use Rattle.model.specs.Parts.{target_in};
@@ -15,7 +16,7 @@ pub enum Ids {
 }
 
 impl Ids {
-    // Whether the interface takes Change Interface Access and Lock Again.
+    // Whether these are Negotiable IDs: of all requests Lock Again alone needs an interface that presents them.
     pub fn is_negotiable(self) -> bool
         ensures { result ≡ is_negotiable self }
     {
@@ -59,7 +60,7 @@ pub struct Interface {
 }
 
 // An interface change under way: the stick idles, then is gone, then presents the target.
-// A struct in two of the cases is no plainer: interface, target and times are the phase itself, and the clock alone takes it apart.
+// Interface, target and times stand in the cases themselves, with no struct around them: they are the phase, and the clock alone takes it apart.
 #[derive(Clone, Copy)]
 pub enum Phase {
     Present,
