@@ -1,4 +1,5 @@
 // The unit that a command is for, and how a command ended.
+// The types alone, so that definitions may name them.
 use model::command::Status;
 use model::layout::Place;
 use model::sense::Sense;

@@ -1,4 +1,5 @@
 // The stick that a command line says, up to the memory of its medium.
+// The medium is fitted by the program, since its make is a type there.
 ghost use Rattle.std.specs.Prelude.{◌≡◌, map, length, string_bytes, IfOk, IfSome, replicate};
 ghost use Rattle.std.specs.Option.{option_map};
 ghost use Rattle.std.specs.Result.{result_ok};

@@ -1,4 +1,4 @@
-// What a line of the script makes happen on the bus.
+// What can happen to a running stick.
 // The bytes are the event's own, so that an answer can be stored in them.
 #![tactic(auto)]
 

@@ -1,4 +1,5 @@
 // What holds of every bulk command, whatever the stick and whatever arrives.
+// The laws speak of the definitions alone: the contract of `Running::bulk` ties the code to them.
 ghost use Rattle.laws.specs.BulkLaws.{CbwJudgementAgrees, TagEchoed, WrittenIsRead, FailedBeforeData, PhaseErrorKeeps};
 
 pub fn cbw_judgement_agrees()

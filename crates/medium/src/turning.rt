@@ -10,7 +10,7 @@ ghost use Rattle.medium.specs.PageMap.{Within, Distinct, Spared};
 use crate::MOST_BLOCKS;
 use crate::store::Store;
 
-// A page map of its own is no plainer: all facts but `full` speak of the number of blocks, which the map would keep a second time.
+// The page map is no type of its own: all facts but `full` speak of the number of blocks, which it would keep a second time.
 // The pages stand in an array of a fixed size: fitting allocates nothing, and cannot fail.
 #[derive(Drop)]
 pub struct Turning {

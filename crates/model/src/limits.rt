@@ -1,4 +1,5 @@
 // How much of everything a stick may have, and the numbers that more than one of its parts speaks of.
+// Each is said here once, for all crates above.
 
 // The interfaces of a stick, and the units of all of them.
 pub const MOST_INTERFACES: usize = 4;

@@ -1,4 +1,5 @@
 // Why a call is turned down, each reason with its number.
+// Calls hand on the reason itself; the number is made at the edge: in a record line, in a message, and for C.
 ghost use Rattle.std.specs.Prelude.{◌≡◌};
 ghost use Rattle.model.specs.Refusals.{refusal_number, number_of, fault_refusal};
 

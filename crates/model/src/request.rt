@@ -1,4 +1,5 @@
 // What a control transfer asks for, as its setup bytes say.
+// Whether there is such an interface or unit is not known here.
 
 ghost use Rattle.std.specs.Prelude.{◌≡◌, ok_or, IfOk};
 ghost use Rattle.model.specs.Requests.{put_number, put_told};

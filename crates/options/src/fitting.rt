@@ -25,7 +25,7 @@ fn spare_pages(make: Make) -> u8
     }
 }
 
-// Written by hand, as `From` below: a derive states neither the text nor which error a `?` makes, and contracts name both.
+// Written by hand, as `From` below, for the reason that stands at `LineError` of the crate `fields`.
 impl fmt::Display for FitError {
     ghost output = { λ e. Some (fit_error_text e) };
 

@@ -60,7 +60,7 @@ fn do_fill(parts: &[Part], data: &[u8]) -> bool
         && parts_end(parts) == u64::from(end))
 }
 
-// The parts of data that so many of them fill, or none where they do not. A constant for the count would be no plainer: the cuts are of three.
+// The parts of data that so many of them fill, or none where they do not. The count is no constant of the type: three are cut in any case.
 fn filling_parts(data: &[u8], count: usize) -> Option<[Part; 3]>
     requires { count ≤ 3 }
     ensures value { result ≡ (if parts_fill count «data».now then Some (cut_parts 3 0 «data».now) else None) }

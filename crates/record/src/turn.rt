@@ -1,4 +1,5 @@
 // The record of a turn: what the stick replied to its event.
+// The bytes that were answered are those at the front of the event's buffer, where the stick left them.
 ghost use Rattle.std.specs.Prelude.{◌≡◌, take, IfOk};
 ghost use Rattle.record.specs.Replies.{reply_line};
 ghost use Rattle.trial.specs.Turns.{reply_in, reply_of};

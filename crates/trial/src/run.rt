@@ -1,4 +1,5 @@
 // Events performed on a running stick, one and a list.
+// What an event is answered and leaves is the model's step, and a list is that step again and again.
 ghost use Rattle.std.specs.Prelude.{◌≡◌, ℕ, ◌≤◌, List, map, length, IfOk};
 ghost use Rattle.events.specs.Happenings.{buffer_of, event_of, unhanded};
 ghost use Rattle.model.specs.Events.{after_bulk, after_control, replies, run as run_on, step, stepped};

@@ -1,4 +1,5 @@
 // Why a command line is none of the bench's.
+// All that can be wrong with the form of a value is one mistake; want of memory is told apart from it.
 ghost use Rattle.std.specs.Prelude.{◌≡◌, Some};
 ghost use Rattle.values.specs.Messages.{message_text};
 ghost use Rattle.values.specs.Mistakes.{mistake_of};
@@ -23,8 +24,7 @@ pub enum Mistake {
     OutOfMemory,
 }
 
-// Written by hand, as `From` below: a derive states neither the text nor which mistake a `?` makes, and contracts name both.
-// No macro of the repository's own may write them either: the gate refuses an impl that one writes.
+// Written by hand, as `From` below, for the reason that stands at `LineError` of the crate `fields`.
 impl fmt::Display for Mistake {
     ghost output = { λ m. Some (message_text m) };
 

@@ -1,4 +1,5 @@
 // Bad runs: pairs of a start and a length, with commas between them.
+// Only their form is looked at here; whether a medium may have them is for its inspection to say.
 ghost use Rattle.std.specs.Prelude.{◌≡◌, [], ◌∷◌, vec_items, MatchOption};
 ghost use Rattle.fields.specs.Readings.{Reads};
 ghost use Rattle.values.specs.Mistakes.{is_memory};

@@ -1,4 +1,5 @@
 // Runs of bad blocks.
+// Inspection of a medium checks them, and a block is bad where the search finds one that holds it.
 ghost use Rattle.model.specs.Blocks.{run_start, run_count};
 
 use crate::Extent;

@@ -1,4 +1,5 @@
 // Parts of a Put, in the bytes of its data.
+// Data whose parts fail the check are malformed; the search tells which part holds a byte.
 ghost use Rattle.model.specs.Parts.{part_start, part_length};
 
 use crate::Extent;

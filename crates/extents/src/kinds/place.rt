@@ -1,4 +1,5 @@
 // Places of units.
+// Inspection of a layout checks them, those of all interfaces in one list; the search tells which unit holds a block.
 ghost use Rattle.model.specs.Layouts.{place_start, place_count};
 
 use crate::Extent;

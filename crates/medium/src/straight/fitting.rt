@@ -1,4 +1,5 @@
 // Fitting a straight medium to its memory, which has no page to spare.
+// Beside the store nothing is kept: the number of a block tells its page.
 ghost use Rattle.std.specs.Prelude.{◌≡◌};
 ghost use Rattle.model.specs.Blocks.{fitted_blocks};
 ghost use Rattle.medium.specs.Straight.{meaning_of};

@@ -1,4 +1,5 @@
 // Fitting a turning medium to its memory, which has one page to spare.
+// Each block starts on the page of its number, and the page behind the last block is the spare one.
 ghost use Rattle.std.specs.Prelude.{◌≡◌, ℕ, ◌<◌, slice_index};
 ghost use Rattle.model.specs.Blocks.{fitted_blocks};
 ghost use Rattle.medium.specs.Turning.{meaning_of};

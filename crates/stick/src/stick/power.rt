@@ -1,4 +1,5 @@
 // Power: what a stick is when power comes, and what is left when it goes.
+// Layout, units' records and medium stay; interfaces are made anew, and an interface change is dropped.
 ghost use Rattle.std.specs.Prelude.{◌≡◌, false, map, length, if◌then◌else◌};
 ghost use Rattle.std.specs.List.{range_with_len};
 ghost use Rattle.model.specs.Layouts.{fitted_layout};

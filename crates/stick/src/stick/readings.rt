@@ -1,4 +1,5 @@
 // Readings of a running stick: what is told of its units, cut to what is wanted.
+// They only look at the stick, and at how long the buffer is; the answer goes into it afterwards.
 ghost use Rattle.std.specs.Prelude.{◌≡◌, ◌≤◌, length, IfOk};
 ghost use Rattle.model.specs.Control.{find_unit, tell_highest, tell_lock_data, with_interface};
 ghost use Rattle.stick.specs.Meaning.{stick_of};

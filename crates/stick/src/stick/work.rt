@@ -1,4 +1,5 @@
 // The work that a running stick does by itself: a recovery wipes its unit, some blocks at a step.
+// It goes on in every phase: also while the stick idles or is gone.
 ghost use Rattle.std.specs.Prelude.{◌≡◌, ◌<◌, length};
 ghost use Rattle.model.specs.Control.{unit_at};
 ghost use Rattle.model.specs.Recovery.{steps_done_of, work_on, worked};
