@@ -1,15 +1,17 @@
 // A whole answer: the bytes that a control transfer sends to the host, before they go into its buffer.
 // Callers see an answer as the list of its bytes.
-ghost use Rattle.std.specs.Prelude.{◌≡◌, ◌+◌, ◌≤◌, [], ◌++◌, length, take};
+ghost use Rattle.std.specs.Prelude.{◌≡◌, ◌+◌, ◌≤◌, [], ◌++◌, length};
 
+use crate::lock_data::BYTES_AROUND;
 use lists::list::FixedList;
+use model::limits::HINT_BYTES;
 use std::marker::Model;
 
-// The longest answer of all is Lock Data with a hint of 100 bytes.
-pub const LONGEST_ANSWER: usize = 119;
+// The longest answer of all is Lock Data with the longest hint.
+pub const LONGEST_ANSWER: usize = BYTES_AROUND + HINT_BYTES;
 
 // A type of its own around the list: only this crate makes answers.
-#[derive(Clone, Copy)]
+#[derive(Drop)]
 pub struct Answer {
     bytes: FixedList<u8, LONGEST_ANSWER>,
 }
@@ -20,8 +22,6 @@ impl Model for Answer {
     ghost Value = { List ℕ };
 
     ghost view = { λ a. a.bytes };
-
-    ghost inverse = { λ bytes. record { bytes = bytes } };
 }
 
 impl Answer {
@@ -42,19 +42,11 @@ impl Answer {
         self.bytes.extend_from_slice(bytes);
     }
 
-    // The front of this answer, no more than was wanted.
-    pub fn cut(mut self, wanted: u16) -> Answer
-        ensures { result ≡ take wanted self }
-    {
-        self.bytes.truncate(usize::from(wanted));
-        self
-    }
-
     // The answer's bytes.
     pub fn as_slice(&self) -> &[u8]
         ensures bytes { result.now ≡ self.now }
         ensures bound { length result.now ≤ LONGEST_ANSWER }
     {
-        self.bytes.as_slice()
+        &self.bytes
     }
 }

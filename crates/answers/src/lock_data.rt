@@ -18,7 +18,7 @@ pub struct LockFacts {
     pub blocks: u32,
     pub address: UnitAddress,
     pub state: LockState,
-    // whether the last Put to the unit was accepted
+    // the accepted flag (bPutAccepted)
     pub accepted: bool,
 }
 
@@ -29,7 +29,7 @@ const STEP_MS: u32 = 10;
 const HEAD_BYTES: usize = 18;
 
 // The bytes of Lock Data, and of the hint part in them, besides the hint itself.
-const BYTES_AROUND: u8 = 19;
+pub(crate) const BYTES_AROUND: usize = HEAD_BYTES + 1;
 
 const PART_BYTES_AROUND: u8 = 3;
 
@@ -115,7 +115,7 @@ impl LockFacts {
         let [s0, s1, s2, s3] = self.stepping_ms().to_le_bytes();
         let [c0, c1, c2, c3] = self.completing_ms().to_le_bytes();
         [
-            BYTES_AROUND + hint_len,
+            BYTES_AROUND as u8 + hint_len,
             LOCKABLE,
             // as numbers, how long a passphrase and a hint may be
             PHRASE_BYTES as u8,

@@ -4,6 +4,7 @@
 
 use console::fits::{chosen_fit, inspected_memory};
 use console::script::serve_script;
+use console::telling::told;
 use medium::Fitted;
 use medium::straight::Straight;
 use medium::turning::Turning;
@@ -20,22 +21,12 @@ fn run<M: Fitted + Drop>(rt: &HostRuntime, fit: Fit, memory: Vec<u8>) -> anyhow:
     serve_script(rt, rt.stdin(), stick)
 }
 
-// The arguments behind the program's name, or none, with the usage on standard error.
-fn arguments(rt: &HostRuntime) -> anyhow::Result<Option<Vec<String>>> {
-    match env::args(rt) {
-        Ok(words) => Ok(Some(words.skip(1).collect(rt.alloc())?)),
-        Err(error) => {
-            eprintln!(rt; "{error}\n{USAGE}")?;
-            Ok(None)
-        }
-    }
-}
-
 // The stick that the command line says, powered up, and the script on it: whether that got to the script's end.
 fn run_bench(rt: &HostRuntime) -> anyhow::Result<bool> {
-    let Some(words) = arguments(rt)? else {
+    let Some(words) = told(rt, USAGE, env::args(rt))? else {
         return Ok(false);
     };
+    let words: Vec<String> = words.skip(1).collect(rt.alloc())?;
     let Some(fit) = chosen_fit(rt, USAGE, words.as_slice())? else {
         return Ok(false);
     };

@@ -94,8 +94,6 @@ fn product_by_interfaces(rt: HostRuntime) {
     interfaces.push(negotiable);
     interfaces.push(plain);
     interfaces.push(negotiable);
-    interfaces.push(negotiable);
-    interfaces.list.truncate(3);
     let device = device_descriptor(&Layout::fit(&bytes, 3), &interfaces);
     assert_eq!(rt;
         device,
@@ -105,17 +103,11 @@ fn product_by_interfaces(rt: HostRuntime) {
     );
 }
 
-// Tables are plain data: what one copy meets, the other does not.
 #[test]
-fn tables_are_copied(rt: HostRuntime) {
-    let mut interfaces = Interfaces::new();
-    interfaces.push(Interface::default());
-    let before = interfaces;
-    interfaces.jam(0);
-    assert!(rt; interfaces.is_jammed(0));
-    assert!(rt; !before.is_jammed(0));
+fn unit_is_found_by_its_block(rt: HostRuntime) {
     let layout = Layout::fit(&[0, 0, 0, 0, 0, 0, 1, 1, 8, 0, 0, 0, 2, 0, 0, 0], 64);
-    let before = layout;
+    assert_eq!(rt; layout.unit_holding(7), None);
+    assert_eq!(rt; layout.unit_holding(8), Some(0));
     assert_eq!(rt; layout.unit_holding(9), Some(0));
-    assert_eq!(rt; before.unit_holding(9), Some(0));
+    assert_eq!(rt; layout.unit_holding(10), None);
 }

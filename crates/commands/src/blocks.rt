@@ -32,7 +32,11 @@ fn write_block<M: Medium>(medium: &mut M, span: Span, moved: u16, part: &[u8]) -
 
 // Reads the blocks of the span, each into the buffer's next 512 bytes. That it has room is asked by name, here and below: it is a fact of a
 // span and a buffer, which the type of neither can say.
-pub fn read_blocks<M: Medium>(medium: &M, span: Span, buffer: &mut [u8]) -> Result<(), Stopped>
+pub(crate) fn read_blocks<M: Medium>(
+    medium: &M,
+    span: Span,
+    buffer: &mut [u8],
+) -> Result<(), Stopped>
     requires { HasRoom span buffer.old }
     ensures moved { moved_of span.count result ≡ good_run span.count (span.start + span.address) (M.meaning medium.now) }
     ensures short { IfErr result (λ s. s.moved < span.count) }
@@ -50,7 +54,11 @@ pub fn read_blocks<M: Medium>(medium: &M, span: Span, buffer: &mut [u8]) -> Resu
 }
 
 // Writes the blocks of the span, each from the buffer's next 512 bytes.
-pub fn write_blocks<M: Medium>(medium: &mut M, span: Span, buffer: &[u8]) -> Result<(), Stopped>
+pub(crate) fn write_blocks<M: Medium>(
+    medium: &mut M,
+    span: Span,
+    buffer: &[u8],
+) -> Result<(), Stopped>
     requires { HasRoom span buffer.now }
     ensures moved { moved_of span.count result ≡ good_run span.count (span.start + span.address) (M.meaning medium.old) }
     ensures short { IfErr result (λ s. s.moved < span.count) }

@@ -40,7 +40,7 @@ fn finish<F: FnOnce(u32) -> Sense>(span: Span, transfer: Result<(), Stopped>, se
 }
 
 // The blocks that moved are answered.
-pub fn read<M: Medium>(medium: &M, span: Span, buffer: &mut [u8]) -> Ended
+pub(crate) fn read<M: Medium>(medium: &M, span: Span, buffer: &mut [u8]) -> Ended
     requires { HasRoom span buffer.old }
     ensures ending { ending_of result buffer.new (M.meaning medium.now) ≡ read_blocks span.address span.count (span.start + span.address) (good_run span.count (span.start + span.address) (M.meaning medium.now)) (M.meaning medium.now) }
     ensures bound { result.answered ≤ length buffer.new }
@@ -55,7 +55,7 @@ pub fn read<M: Medium>(medium: &M, span: Span, buffer: &mut [u8]) -> Ended
 }
 
 // Nothing is answered. A function apart from `read`, as `write_block` is from `read_block`.
-pub fn write<M: Medium>(medium: &mut M, span: Span, buffer: &[u8]) -> Ended
+pub(crate) fn write<M: Medium>(medium: &mut M, span: Span, buffer: &[u8]) -> Ended
     requires { HasRoom span buffer.now }
     ensures bound { result.answered ≡ 0 }
     ensures ending { ending_of result buffer.now (M.meaning medium.new) ≡ write_blocks span.address span.count (span.start + span.address) (good_run span.count (span.start + span.address) (M.meaning medium.old)) buffer.now (M.meaning medium.old) }

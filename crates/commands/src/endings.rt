@@ -10,7 +10,7 @@ use model::command::Status;
 use model::sense::Sense;
 
 // A command that ends with no data: nothing is answered, and nothing moved.
-pub fn without_data(status: Status, sense: Sense) -> Ended
+pub(crate) fn without_data(status: Status, sense: Sense) -> Ended
     ensures status { result.status ≡ status }
     ensures answered { result.answered ≡ 0 }
     ensures moved { result.moved ≡ 0 }
@@ -25,7 +25,7 @@ pub fn without_data(status: Status, sense: Sense) -> Ended
 }
 
 // A command that fails before any data.
-pub fn fail(sense: Sense) -> Ended
+pub(crate) fn fail(sense: Sense) -> Ended
     ensures ending { (ds : List ℕ) (m : List Block) → ending_of result ds m ≡ failed sense m }
     ensures bound { result.answered ≡ 0 }
 {
@@ -33,7 +33,7 @@ pub fn fail(sense: Sense) -> Ended
 }
 
 // The first bytes of an answer at the buffer's front, as many as the allocation length allows.
-pub fn tell(bytes: &[u8], allocation: u16, buffer: &mut [u8]) -> Ended
+pub(crate) fn tell(bytes: &[u8], allocation: u16, buffer: &mut [u8]) -> Ended
     requires { min (length bytes.now) allocation ≤ length buffer.old }
     ensures ending { (m : List Block) → ending_of result buffer.new m ≡ told (take allocation bytes.now) m }
     ensures bound { result.answered ≤ length buffer.new }

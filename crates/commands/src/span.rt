@@ -15,7 +15,7 @@ pub struct Span {
 
 impl Span {
     // The block of the medium so many blocks on, which may lie past what any medium has.
-    pub fn block(self, moved: u16) -> Result<u32, Fault>
+    pub(crate) fn block(self, moved: u16) -> Result<u32, Fault>
         requires { moved < self.count }
         ensures block { IfOk result (λ b. b ≡ self.start + self.address + moved) }
         ensures past { OnErr result ((result ≡ Err Outside) × (2 ^ 32 ≤ self.start + self.address + moved)) }

@@ -6,6 +6,7 @@ ghost use Rattle.std.specs.Result.{result_ok};
 ghost use Rattle.options.specs.Choices.{fit_of, fit_said};
 ghost use Rattle.options.specs.Fits.{memory_fit};
 
+use crate::telling::told;
 use options::choice::{Fit, FitError};
 use options::read::read_options;
 use values::error::Mistake;
@@ -19,12 +20,8 @@ pub fn chosen_fit<R: Eprint + AllocGlobal>(
     ensures { IfOk result (λ chosen. option_map fit_of chosen ≡ result_ok (fit_said (map string_bytes words.now))) }
 {
     match read_options(rt.alloc(), words) {
-        Ok(fit) => Ok(Some(fit)),
         Err(Mistake::OutOfMemory) => Err(Mistake::OutOfMemory.into()),
-        Err(mistake) => {
-            eprintln!(rt; "{mistake}\n{usage}")?;
-            Ok(None)
-        }
+        chosen => told(rt, usage, chosen),
     }
 }
 

@@ -5,3 +5,4 @@
 pub mod fits;
 pub mod script;
 pub mod serving;
+pub mod telling;

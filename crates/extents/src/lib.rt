@@ -2,7 +2,7 @@
 // The check is true exactly where the predicate holds; the search answers which element holds a position.
 #![tactic(auto)]
 
-pub mod kinds;
+mod kinds;
 
 ghost use Rattle.std.specs.Prelude.{◌≡◌, ℕ, ◌+◌, Decides};
 ghost use Rattle.model.specs.Extents.{fitting, sound, Sound, holds, found, Finds};

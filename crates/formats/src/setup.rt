@@ -21,6 +21,9 @@ const CLASS_IN: u8 = 0xA1;
 
 const CLASS_OUT: u8 = 0x21;
 
+// The lowest bmRequestType whose bit 7 says that the data go to the host.
+const TO_HOST: u8 = 0x80;
+
 // bRequest
 const GET_DESCRIPTOR: u8 = 0x06;
 
@@ -37,8 +40,8 @@ const DEVICE: u16 = 0x0100;
 
 const CONFIGURATION: u16 = 0x0200;
 
-// The bytes of a part around its text, and the most that a passphrase, a hint and access data have.
-const HEAD: u16 = 3;
+// The bytes of a part around its text, two before it and one behind, and the most that a passphrase, a hint and access data have.
+const AROUND: u16 = 3;
 
 const PHRASE: u16 = PHRASE_BYTES as u16;
 
@@ -63,8 +66,8 @@ pub fn read_setup(setup: &[u8]) -> Result<Asked, Refusal>
     ensures refusal { IfErr result (λ r. r ≡ Unlisted) }
 {
     let [
-        kind,
-        code,
+        request_type,
+        request_code,
         value_low,
         value_high,
         index_low,
@@ -81,7 +84,7 @@ pub fn read_setup(setup: &[u8]) -> Result<Asked, Refusal>
         interface,
         unit: value_high,
     };
-    let request = match (kind, code) {
+    let request = match (request_type, request_code) {
         (STANDARD_IN, GET_DESCRIPTOR) if interface == 0 && index_high == 0 => descriptor_asked(
             value,
         )?,
@@ -103,7 +106,7 @@ pub fn is_reading(setup: &[u8]) -> bool
     ensures { result ≡ is_reading setup.now }
 {
     match setup {
-        [kind, _, _, _, _, _, _, _] => *kind >= STANDARD_IN,
+        [request_type, _, _, _, _, _, _, _] => *request_type >= TO_HOST,
         _ => false,
     }
 }
@@ -115,9 +118,9 @@ fn put_lengths(put: Put) -> RangeInclusive<u16>
     ensures unspent { range_inclusive_exhausted result ≡ false }
 {
     match put {
-        Put::StorePassphrase => 2 * HEAD..=2 * HEAD + PHRASE + HINT,
-        Put::MatchPassphrase | Put::ErasePassphrase => HEAD..=HEAD + PHRASE,
-        Put::ChangePassphrase => 3 * HEAD..=3 * HEAD + 2 * PHRASE + HINT,
+        Put::StorePassphrase => 2 * AROUND..=2 * AROUND + PHRASE + HINT,
+        Put::MatchPassphrase | Put::ErasePassphrase => AROUND..=AROUND + PHRASE,
+        Put::ChangePassphrase => 3 * AROUND..=3 * AROUND + 2 * PHRASE + HINT,
         Put::EraseForgottenPassphrase | Put::LockAgain => 0..=0,
         Put::ChangeInterfaceAccess => ACCESS..=ACCESS,
     }
@@ -131,7 +134,7 @@ pub fn is_put_length(put: Put, length: u16) -> bool
 }
 
 // Whether a request may have this wLength, whatever arrives with it.
-pub fn is_length_allowed(request: Request, length: u16) -> bool
+pub(crate) fn is_length_allowed(request: Request, length: u16) -> bool
     ensures { result ≡ length_allowed request length }
 {
     match request {

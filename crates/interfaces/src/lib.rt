@@ -3,5 +3,5 @@
 #![tactic(auto)]
 
 pub mod descriptor;
-pub mod presence;
+mod presence;
 pub mod table;

@@ -10,9 +10,9 @@ use model::limits::MOST_INTERFACES;
 use std::marker::Model;
 
 // A type of its own around the list: what is read of an interface that there is not stands here.
-#[derive(Clone, Copy)]
+#[derive(Drop)]
 pub struct Interfaces {
-    pub list: FixedList<Interface, MOST_INTERFACES>,
+    pub(crate) list: FixedList<Interface, MOST_INTERFACES>,
 }
 
 impl Model for Interfaces {
@@ -22,8 +22,6 @@ impl Model for Interfaces {
     ghost Value = { List Interface };
 
     ghost view = { λ t. t.list };
-
-    ghost inverse = { λ xs. record { list = xs } };
 }
 
 impl Interfaces {
@@ -59,15 +57,5 @@ impl Interfaces {
         self.list
             .get(usize::from(interface))
             .is_some_and(|presented| presented.jammed)
-    }
-}
-
-// By hand, since a derive does not say which value it makes.
-impl Default for Interfaces {
-    ghost is_default = { λ interfaces. interfaces ≡ [] };
-
-    // No interface.
-    fn default() -> Interfaces {
-        Interfaces::new()
     }
 }

@@ -2,6 +2,6 @@
 // Layout bytes are inspected by every rule; fitting after that is total.
 #![tactic(auto)]
 
-pub mod places;
+mod places;
 pub mod read;
 pub mod table;

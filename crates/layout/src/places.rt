@@ -1,4 +1,5 @@
-// Where units lie: which unit holds a block of the medium.
+// Units in the whole stick: numbered through, interface 0 first.
+// By its address a unit is found, and by a block of the medium the unit that holds it.
 ghost use Rattle.std.specs.Prelude.{◌≡◌, ◌<◌, ◌≤◌, take, length, IfSome};
 ghost use Rattle.model.specs.Extents.{found, Finds};
 ghost use Rattle.model.specs.Control.{find_unit};
@@ -27,7 +28,7 @@ impl Layout {
         find(&self.places, block)
     }
 
-    // A unit of an interface by its number in the whole stick, if there is one.
+    // The number in the whole stick of the unit at this address, if there is one.
     pub fn find_unit(&self, address: UnitAddress) -> Option<usize>
         ensures value { result ≡ find_unit self.now address.interface address.unit }
         ensures bound { IfSome result (λ v. (v < length self.now.places) × (address.interface < length self.now.counts)) }
@@ -38,7 +39,7 @@ impl Layout {
         (number < units.end).then_some(number)
     }
 
-    // The units of an interface in the whole stick; units are numbered through, interface 0 first.
+    // The numbers of an interface's units in the whole stick.
     pub fn unit_range(&self, interface: u8) -> Option<Range<usize>>
         ensures value { result ≡ range_of self.now interface }
         ensures bound { IfSome result (λ r. (r.end ≤ length self.now.places) × (r.start ≤ r.end)) }

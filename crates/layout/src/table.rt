@@ -9,13 +9,13 @@ use model::layout::Place;
 use model::limits::{MOST_INTERFACES, MOST_UNITS};
 use std::marker::Model;
 
-#[derive(Clone, Copy)]
+#[derive(Drop)]
 pub struct Layout {
-    pub vendor: u16,
-    pub product_base: u16,
-    pub release: u16,
-    pub unit_counts: FixedList<u8, MOST_INTERFACES>,
-    pub places: FixedList<Place, MOST_UNITS>,
+    pub(crate) vendor: u16,
+    pub(crate) product_base: u16,
+    pub(crate) release: u16,
+    pub(crate) unit_counts: FixedList<u8, MOST_INTERFACES>,
+    pub(crate) places: FixedList<Place, MOST_UNITS>,
 }
 
 // What the invariant bounds is said in clauses too: outside this crate a proof sees the value, and not what is behind it.
@@ -29,14 +29,6 @@ impl Model for Layout {
 
     ghost invariant = { λ l. (l.product_base % 16 ≡ 0) × (length l.places ≡ sum l.unit_counts)
         × (length l.unit_counts ≤ 4) × (length l.places ≤ 16) };
-
-    ghost inverse = { λ v. record {
-      vendor = v.vendor;
-      product_base = v.base;
-      release = v.release;
-      unit_counts = v.counts;
-      places = v.places;
-    } };
 }
 
 impl Layout {
@@ -66,7 +58,7 @@ impl Layout {
     pub fn has_interface(&self, interface: u8) -> bool
         ensures { result ≡ nat_lt interface (length self.now.counts) }
     {
-        usize::from(interface) < self.unit_counts.len()
+        self.unit_counts.get(usize::from(interface)).is_some()
     }
 
     // How many units each interface has.
@@ -76,7 +68,7 @@ impl Layout {
         ensures total { sum result.now ≡ length self.now.places }
         ensures bound { sum result.now ≤ 16 }
     {
-        self.unit_counts.as_slice()
+        &self.unit_counts
     }
 
     // The units of all interfaces.
@@ -85,7 +77,7 @@ impl Layout {
         ensures total { result ≡ sum self.now.counts }
         ensures few { result ≤ 16 }
     {
-        self.places.len()
+        self.places.iter().len()
     }
 
     // Where a unit lies, by its number in the whole stick; past the last unit there are no blocks.

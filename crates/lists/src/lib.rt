@@ -1,6 +1,5 @@
-// Lists in fixed memory that can be copied.
+// Lists in fixed memory.
 // Answers, layouts and the interfaces of a stick are made of them.
 #![tactic(auto)]
 
-pub mod blank;
 pub mod list;

@@ -2,11 +2,11 @@
 // Here are the calls that every medium has, their laws, and what the makes of medium share.
 #![tactic(auto)]
 
-pub mod admission;
-pub mod bad_runs;
+mod admission;
+mod bad_runs;
 pub mod laws;
-pub mod rules;
-pub mod store;
+mod rules;
+mod store;
 pub mod straight;
 pub mod turning;
 

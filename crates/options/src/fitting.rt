@@ -61,7 +61,7 @@ impl From<AllocError> for FitError {
 
 impl Fit {
     // The bytes of the medium's memory, of no more blocks than a medium may have.
-    pub fn memory_bytes(&self) -> Result<usize, Refusal>
+    pub(crate) fn memory_bytes(&self) -> Result<usize, Refusal>
         ensures { result ≡ memory_said self.now.make self.now.blocks }
     {
         let blocks = self.blocks as usize;
@@ -72,10 +72,13 @@ impl Fit {
     }
 
     // Inspects the medium on this memory, then the layout.
-    pub fn inspect(&self, memory: &[u8]) -> Result<(), Refusal>
+    pub(crate) fn inspect(&self, memory: &[u8]) -> Result<(), Refusal>
         ensures { result ≡ inspected (fit_of self.now) (length memory.now) }
     {
-        medium::rules::inspect(spare_pages(self.make), memory.len(), self.runs.as_slice())?;
+        match self.make {
+            Make::Straight => Straight::inspect(memory, self.runs.as_slice())?,
+            Make::Turning => Turning::inspect(memory, self.runs.as_slice())?,
+        }
         layout::read::inspect(self.layout.as_slice(), self.blocks)
     }
 
@@ -91,7 +94,7 @@ impl Fit {
 }
 
 // What is wrong with a stick that inspection refuses.
-pub fn reason(refusal: Refusal) -> &'static str
+pub(crate) fn reason(refusal: Refusal) -> &'static str
     ensures { result.now ≡ reason_text (refusal_number refusal) }
 {
     match refusal {

@@ -8,7 +8,7 @@ use fields::words::BLANK;
 use std::alloc::{AllocError, Global};
 
 // The record line of an event that is answered with `number` and perhaps with a CSW, then with bytes.
-pub fn record_line(
+pub(crate) fn record_line(
     heap: Global,
     number: u8,
     csw: &[u8],

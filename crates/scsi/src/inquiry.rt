@@ -15,7 +15,10 @@ const RESPONSE_FORMAT: u8 = 0x02;
 // The bytes that follow the fifth.
 const MORE_BYTES: u8 = 0x1F;
 
-const INQUIRY_HEAD: [u8; 8] = [
+// The bytes before the names.
+const HEAD_BYTES: usize = 8;
+
+const INQUIRY_HEAD: [u8; HEAD_BYTES] = [
     DIRECT_ACCESS,
     FIXED_MEDIUM,
     SPC_3,
@@ -28,13 +31,13 @@ const INQUIRY_HEAD: [u8; 8] = [
 
 const BLANK: u8 = b' ';
 
-pub const INQUIRY_LENGTH: usize = 36;
+pub(crate) const INQUIRY_LENGTH: usize = 36;
 
 // The answer to INQUIRY: names of vendor and product and a revision would follow the head, and are left blank.
 pub fn inquiry_data() -> [u8; INQUIRY_LENGTH]
     ensures { result ≡ inquiry_data }
 {
     let mut answer = [BLANK; INQUIRY_LENGTH];
-    answer[0..8].copy_from_slice(&INQUIRY_HEAD);
+    answer[..HEAD_BYTES].copy_from_slice(&INQUIRY_HEAD);
     answer
 }

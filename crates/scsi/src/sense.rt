@@ -91,7 +91,7 @@ const FIXED_FORM: u8 = 0x70;
 const FIXED_FORM_VALID: u8 = 0xF0;
 
 // The bytes of sense data, and how many of them follow the eighth.
-pub const SENSE_LENGTH: usize = 18;
+pub(crate) const SENSE_LENGTH: usize = 18;
 
 const MORE_BYTES: u8 = 10;
 

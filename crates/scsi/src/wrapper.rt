@@ -35,14 +35,24 @@ const WRITE_10: u8 = 0x2A;
 // Bit 0 of a command's second byte: DESC of REQUEST SENSE, EVPD of INQUIRY. Neither is served.
 const DESC_OR_EVPD: u8 = 0x01;
 
+// The bytes of a command by the group of its operation code, and of any command at the least.
+const GROUP_0_BYTES: u8 = 6;
+
+const GROUP_1_BYTES: u8 = 10;
+
+const FEWEST_BYTES: u8 = 1;
+
+// INQUIRY's page code where EVPD is clear.
+const NO_PAGE: u8 = 0x00;
+
 // The bytes of a listed command; of an unlisted one any command length is in order.
 fn command_length(code: u8) -> u8
     ensures { result ≡ command_length code }
 {
     match code {
-        TEST_UNIT_READY | REQUEST_SENSE | INQUIRY => 6,
-        READ_CAPACITY_10 | READ_10 | WRITE_10 => 10,
-        _ => 1,
+        TEST_UNIT_READY | REQUEST_SENSE | INQUIRY => GROUP_0_BYTES,
+        READ_CAPACITY_10 | READ_10 | WRITE_10 => GROUP_1_BYTES,
+        _ => FEWEST_BYTES,
     }
 }
 
@@ -62,7 +72,7 @@ fn read_command(cbw: &[u8]) -> Command
             Command::RequestSense {
                 allocation: *allocation,
             },
-        [INQUIRY, options, 0, a0, a1, ..] if is_plain(*options) => Command::Inquiry {
+        [INQUIRY, options, NO_PAGE, a0, a1, ..] if is_plain(*options) => Command::Inquiry {
             allocation: u16::from_be_bytes([*a0, *a1]),
         },
         [REQUEST_SENSE | INQUIRY, ..] => Command::Rejected {

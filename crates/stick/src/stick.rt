@@ -2,14 +2,14 @@
 // The two are types of their own, and each becomes the other: power-up takes one and yields the other, power-down takes it back.
 ghost use Rattle.std.specs.Prelude.{◌≡◌, length};
 
-pub mod bulk;
+mod bulk;
 mod changes;
-pub mod clock;
-pub mod control;
+mod clock;
+mod control;
 pub mod power;
 mod readings;
 mod stage;
-pub mod work;
+mod work;
 
 use interfaces::table::Interfaces;
 use layout::table::Layout;

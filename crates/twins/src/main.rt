@@ -4,6 +4,7 @@
 
 use console::fits::{chosen_fit, inspected_memory};
 use console::serving::serve_lines;
+use console::telling::told;
 use lines::line::read_line;
 use medium::straight::Straight;
 use medium::turning::Turning;
@@ -212,7 +213,10 @@ fn chosen_fits(rt: &HostRuntime, words: &[String]) -> anyhow::Result<Option<(Fit
 
 // The sticks and scripts that the command line says, side by side: whether they could be run.
 fn run_twins(rt: &HostRuntime) -> anyhow::Result<bool> {
-    let words: Vec<String> = env::args(rt)?.skip(1).collect(rt.alloc())?;
+    let Some(words) = told(rt, USAGE, env::args(rt))? else {
+        return Ok(false);
+    };
+    let words: Vec<String> = words.skip(1).collect(rt.alloc())?;
     let [first_path, second_path, common_path, rest @ ..] = words.as_slice() else {
         eprintln!(rt; "{USAGE}")?;
         return Ok(false);

@@ -1,5 +1,6 @@
 -- What a row means, and what holds of every row.
-use Rattle.std.specs.Prelude.{ℕ, Bool, true, ◌&&◌, List, [], ◌∷◌, Result, ◌==◌, nat_le}
+use Rattle.std.specs.Prelude.{ℕ, Bool, true, ◌&&◌, List, [], ◌∷◌, Result, ◌==◌, nat_le, nat_lt}
+use Rattle.std.specs.Str.{bytes_eq}
 use Rattle.answers.specs.Standings.{standing_by}
 use Rattle.model.specs.Puts.{Turn, turn}
 use Rattle.model.specs.Refusals.{number_of}
@@ -30,6 +31,10 @@ sound_row r =
 abbrev pub sound_rows : List Row → Bool
 sound_rows [] = true
 sound_rows (r ∷ rs) = sound_row r && sound_rows rs
+
+-- the candidate equals the stored passphrase, with under ten misses
+abbrev pub admits : Row → List ℕ → Bool
+admits r c = bytes_eq (stored r.phrase) c && nat_lt r.misses 10
 
 -- the number of a refusal or 0, with the record afterwards
 abbrev pub turn_of : Result (Unit {0}) Refusal → Row → Turn

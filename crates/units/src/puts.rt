@@ -1,14 +1,13 @@
 // What a Put does to one row: the transition matches the row's own state and the Put together, in place.
 // Everything is weighed before anything is stored, and what is erased is zeros.
-ghost use Rattle.std.specs.Prelude.{◌≡◌, true, false, ◌&&◌, [], nat_lt, OnOk, OnErr};
-ghost use Rattle.std.specs.Str.{bytes_eq};
+ghost use Rattle.std.specs.Prelude.{◌≡◌, true, false, [], if◌then◌else◌, OnOk, OnErr};
 ghost use Rattle.parts.specs.Carries.{fits_record, put_of};
 ghost use Rattle.parts.specs.Secrets.{HasRoom};
 ghost use Rattle.answers.specs.Standings.{standing_by};
 ghost use Rattle.model.specs.Puts.{refused, missed, done, kept, turned};
 ghost use Rattle.model.specs.Units.{impersonal, unlocked, unit_record};
-ghost use Rattle.units.specs.Kept.{stored};
-ghost use Rattle.units.specs.Records.{record_of, sound_row, turn_of, vacant};
+ghost use Rattle.units.specs.Kept.{stored, tidy};
+ghost use Rattle.units.specs.Records.{record_of, sound_row, turn_of, vacant, admits};
 
 use crate::row::Row;
 use model::limits::{HINT_BYTES, PHRASE_BYTES};
@@ -45,14 +44,13 @@ impl Row {
         if self.misses < MOST_MISSES {
             self.misses += 1;
         }
-        self.accepted = false;
-        Err(Refusal::Incorrect)
+        self.refuse(Refusal::Incorrect)
     }
 
     // Whether a candidate equals the stored passphrase, with under ten misses. Both are looked at in any case.
     fn is_correct(&self, candidate: &[u8]) -> bool
         requires { sound_row self.now ≡ true }
-        ensures { result ≡ (bytes_eq (stored self.now.phrase) candidate.now && nat_lt self.now.misses 10) }
+        ensures { result ≡ admits self.now candidate.now }
     {
         let same = self.phrase.is_same(candidate);
         same & (self.misses < MOST_MISSES)
@@ -61,8 +59,9 @@ impl Row {
     // A correct candidate changes nothing yet; an incorrect one is a miss.
     fn admit(&mut self, candidate: &[u8]) -> Result<(), Refusal>
         requires { sound_row self.old ≡ true }
-        ensures ok { OnOk result ((self.new ≡ self.old) × ((bytes_eq (stored self.old.phrase) candidate.now && nat_lt self.old.misses 10) ≡ true)) }
-        ensures err { OnErr result (((bytes_eq (stored self.old.phrase) candidate.now && nat_lt self.old.misses 10) ≡ false) × (turn_of result self.new ≡ missed (record_of self.old)) × (sound_row self.new ≡ true)) }
+        ensures ok { OnOk result ((self.new ≡ self.old) × (admits self.old candidate.now ≡ true)) }
+        ensures err { OnErr result ((admits self.old candidate.now ≡ false) × (turn_of result self.new ≡ missed (record_of self.old))) }
+        ensures sound { sound_row self.new ≡ true }
     {
         if self.is_correct(candidate) {
             Ok(())
@@ -82,10 +81,12 @@ impl Row {
         Ok(())
     }
 
-    // Accepted with a correct candidate: the misses are cleared too.
+    // Accepted, and Unlocked: the misses are cleared too.
     fn open(&mut self) -> Result<(), Refusal>
+        requires phrase { tidy self.old.phrase ≡ true }
+        requires hint { tidy self.old.hint ≡ true }
         ensures turn { turn_of result self.new ≡ done (unlocked (stored self.old.phrase)) (record_of self.old).hint (record_of self.old) }
-        ensures sound { sound_row self.old ≡ true → sound_row self.new ≡ true }
+        ensures sound { sound_row self.new ≡ true }
     {
         self.state = LockState::Unlocked;
         self.misses = 0;
@@ -97,20 +98,17 @@ impl Row {
     fn keep(&mut self, secret: NewSecret<'_>) -> Result<(), Refusal>
         requires { HasRoom secret }
         ensures turn { turn_of result self.new ≡ done (unlocked secret.entry.phrase.now) secret.entry.hint.now (record_of self.old) }
-        ensures sound { sound_row self.old ≡ true → sound_row self.new ≡ true }
+        ensures sound { sound_row self.new ≡ true }
     {
         self.phrase.set(secret.phrase);
         self.hint.set(secret.hint);
-        self.misses = 0;
-        self.state = LockState::Unlocked;
-        self.accepted = true;
-        Ok(())
+        self.open()
     }
 
-    // Wipes passphrase, hint and misses: the unit is Impersonal again, and what was asked of it is done.
+    // Wipes passphrase, hint and misses: the unit is Impersonal again, and what was asked of it is done: the accepted flag is set.
     pub(crate) fn wipe(&mut self)
         ensures wiped { record_of self.new ≡ unit_record impersonal [] 0 true self.old.sense }
-        ensures sound { sound_row self.old ≡ true → sound_row self.new ≡ true }
+        ensures sound { sound_row self.new ≡ true }
     {
         self.phrase.set(&[]);
         self.hint.set(&[]);
@@ -119,11 +117,34 @@ impl Row {
         self.accepted = true;
     }
 
-    // Erases passphrase and hint, and the misses.
-    fn erase(&mut self) -> Result<(), Refusal>
-        ensures turn { turn_of result self.new ≡ done impersonal [] (record_of self.old) }
-        ensures sound { sound_row self.old ≡ true → sound_row self.new ≡ true }
+    // With a correct candidate the unit is Unlocked.
+    fn unlock(&mut self, candidate: &[u8]) -> Result<(), Refusal>
+        requires { sound_row self.old ≡ true }
+        ensures turn { turn_of result self.new ≡ (if admits self.old candidate.now then done (unlocked (stored self.old.phrase)) (record_of self.old).hint (record_of self.old) else missed (record_of self.old)) }
+        ensures sound { sound_row self.new ≡ true }
     {
+        self.admit(candidate)?;
+        self.open()
+    }
+
+    // With a correct candidate another passphrase and hint are kept.
+    fn change(&mut self, candidate: &[u8], secret: NewSecret<'_>) -> Result<(), Refusal>
+        requires room { HasRoom secret }
+        requires sound { sound_row self.old ≡ true }
+        ensures turn { turn_of result self.new ≡ (if admits self.old candidate.now then done (unlocked secret.entry.phrase.now) secret.entry.hint.now (record_of self.old) else missed (record_of self.old)) }
+        ensures sound { sound_row self.new ≡ true }
+    {
+        self.admit(candidate)?;
+        self.keep(secret)
+    }
+
+    // With a correct candidate passphrase and hint are erased, and the misses.
+    fn erase(&mut self, candidate: &[u8]) -> Result<(), Refusal>
+        requires { sound_row self.old ≡ true }
+        ensures turn { turn_of result self.new ≡ (if admits self.old candidate.now then done impersonal [] (record_of self.old) else missed (record_of self.old)) }
+        ensures sound { sound_row self.new ≡ true }
+    {
+        self.admit(candidate)?;
         self.wipe();
         Ok(())
     }
@@ -146,36 +167,26 @@ impl Row {
             (LockState::Impersonal, UnitPut::Store(secret)) if has_room(secret) => self.keep(
                 secret,
             ),
-            (LockState::Impersonal, UnitPut::Store(_) | UnitPut::Malformed(Put::StorePassphrase)) =>
-                self.refuse(Refusal::Malformed),
-            (LockState::Impersonal, _) => self.refuse(Refusal::WrongState),
-            (LockState::Locked, UnitPut::Match { candidate }) => {
-                self.admit(candidate)?;
-                self.open()
-            }
-            (LockState::Locked, UnitPut::Malformed(Put::MatchPassphrase)) => self.refuse(
-                Refusal::Malformed,
-            ),
+            (LockState::Locked, UnitPut::Match { candidate }) => self.unlock(candidate),
             (LockState::Locked, UnitPut::EraseForgotten) => self.accept(LockState::Recovering {
                 steps_done: 0,
             }),
-            (LockState::Locked, _) => self.refuse(Refusal::WrongState),
             (LockState::Unlocked, UnitPut::Change { candidate, secret }) if has_room(secret) => {
-                self.admit(candidate)?;
-                self.keep(secret)
+                self.change(candidate, secret)
             }
-            (LockState::Unlocked, UnitPut::Erase { candidate }) => {
-                self.admit(candidate)?;
-                self.erase()
-            }
-            (
+            (LockState::Unlocked, UnitPut::Erase { candidate }) => self.erase(candidate),
+            (LockState::Unlocked, UnitPut::LockAgain) if negotiable => self.accept(
+                LockState::Locked,
+            ),
+            (LockState::Impersonal, UnitPut::Store(_) | UnitPut::Malformed(Put::StorePassphrase))
+            | (LockState::Locked, UnitPut::Malformed(Put::MatchPassphrase))
+            | (
                 LockState::Unlocked,
                 UnitPut::Change { .. }
                 | UnitPut::Malformed(Put::ChangePassphrase | Put::ErasePassphrase),
             ) => self.refuse(Refusal::Malformed),
-            (LockState::Unlocked, UnitPut::LockAgain) if negotiable => self.accept(
-                LockState::Locked,
-            ),
+            (LockState::Impersonal, _) => self.refuse(Refusal::WrongState),
+            (LockState::Locked, _) => self.refuse(Refusal::WrongState),
             (LockState::Unlocked, _) => self.refuse(Refusal::WrongState),
         }
     }

@@ -11,11 +11,10 @@ use crate::row::Row;
 use crate::rows::Rows;
 use model::limits::STEP_BLOCKS;
 use model::lock::LockState;
-use model::sense::Sense;
 
 impl Row {
     // Whether a recovery is under way.
-    pub fn is_recovering(&self) -> bool
+    pub(crate) fn is_recovering(&self) -> bool
         ensures { result ≡ is_recovering (record_of self.now).standing }
     {
         matches!(self.state, LockState::Recovering { .. })
@@ -48,15 +47,6 @@ impl Row {
             }
         }
     }
-
-    // Shown anew: nothing is told of the time before, and the unit stands as it stood.
-    fn present(&mut self)
-        ensures record { record_of self.new ≡ presented (record_of self.old) }
-        ensures sound { sound_row self.new ≡ sound_row self.old }
-    {
-        self.accepted = false;
-        self.sense = Sense::None;
-    }
 }
 
 impl Rows {
@@ -78,7 +68,7 @@ impl Rows {
     pub fn advance(&mut self, index: usize, blocks: u32)
         ensures { self.new ≡ alter index (λ u. advanced (nat_le blocks (16 * (steps_done_of u.standing + 1))) u.standing u) self.old }
     {
-        // By index: of a row that a slice's get_mut lent, nothing is known afterwards.
+        // By index, as in `put_to`.
         if index < self.rows.len() {
             self.rows[index].advance(blocks);
         }

@@ -1,6 +1,7 @@
-// One unit's record: a plain row of fixed arrays.
-// No invariant of its own, which would be no plainer: a transition changes a row field by field while it is lent, and the table bounds all rows.
+// One unit's record: a plain row of fixed arrays. None can be copied: a copy would leave its passphrase behind.
+// No invariant of its own: a transition changes a row field by field while it is lent, so the table bounds all rows.
 ghost use Rattle.std.specs.Prelude.{◌≡◌, true};
+ghost use Rattle.model.specs.Presence.{presented};
 ghost use Rattle.model.specs.Units.{new_unit, powered, holds_phrase, is_locked};
 ghost use Rattle.units.specs.Records.{record_of, sound_row};
 
@@ -9,20 +10,20 @@ use model::limits::{HINT_BYTES, PHRASE_BYTES};
 use model::lock::LockState;
 use model::sense::Sense;
 
-#[derive(Clone, Copy)]
+#[derive(Drop)]
 pub struct Row {
-    pub state: LockState,
-    pub phrase: Stored<PHRASE_BYTES>,
-    pub hint: Stored<HINT_BYTES>,
-    pub misses: u8,
-    // whether the last Put to the unit was accepted
-    pub accepted: bool,
-    pub sense: Sense,
+    pub(crate) state: LockState,
+    pub(crate) phrase: Stored<PHRASE_BYTES>,
+    pub(crate) hint: Stored<HINT_BYTES>,
+    pub(crate) misses: u8,
+    // the accepted flag (bPutAccepted)
+    pub(crate) accepted: bool,
+    pub(crate) sense: Sense,
 }
 
 impl Row {
     // A new unit: Impersonal, with no misses.
-    pub fn new() -> Row
+    pub(crate) fn new() -> Row
         ensures record { record_of result ≡ new_unit }
         ensures sound { sound_row result ≡ true }
     {
@@ -36,39 +37,37 @@ impl Row {
         }
     }
 
-    // Power-up: a unit that holds a passphrase is locked, and nothing is told of the time before.
-    pub fn power_up(&mut self)
+    // Shown anew: nothing is told of the time before, and the unit stands as it stood.
+    pub(crate) fn present(&mut self)
+        ensures record { record_of self.new ≡ presented (record_of self.old) }
+        ensures sound { sound_row self.new ≡ sound_row self.old }
+    {
+        self.accepted = false;
+        self.sense = Sense::None;
+    }
+
+    // Power-up: a unit that holds a passphrase is locked, and each is shown anew.
+    pub(crate) fn power_up(&mut self)
         ensures record { record_of self.new ≡ powered (record_of self.old) }
         ensures sound { sound_row self.new ≡ sound_row self.old }
     {
         if let LockState::Unlocked = self.state {
             self.state = LockState::Locked;
         }
-        self.accepted = false;
-        self.sense = Sense::None;
+        self.present();
     }
 
     // Whether the unit holds a passphrase.
-    pub fn is_personal(&self) -> bool
+    pub(crate) fn is_personal(&self) -> bool
         ensures { result ≡ holds_phrase (record_of self.now).standing }
     {
         !matches!(self.state, LockState::Impersonal)
     }
 
     // Whether the unit is Locked, as one that recovers is.
-    pub fn is_locked(&self) -> bool
+    pub(crate) fn is_locked(&self) -> bool
         ensures { result ≡ is_locked (record_of self.now).standing }
     {
         matches!(self.state, LockState::Locked | LockState::Recovering { .. })
-    }
-}
-
-// By hand, since a derive does not say which value it makes.
-impl Default for Row {
-    ghost is_default = { λ r. (record_of r ≡ new_unit) × (sound_row r ≡ true) };
-
-    // A new unit.
-    fn default() -> Row {
-        Row::new()
     }
 }

@@ -4,24 +4,19 @@ use crate::row::Row;
 use model::limits::MOST_UNITS;
 use std::marker::Model;
 
-#[derive(Clone, Copy)]
+#[derive(Drop)]
 pub struct Rows {
-    pub rows: [Row; MOST_UNITS],
+    pub(crate) rows: [Row; MOST_UNITS],
 }
 
 impl Model for Rows {
     ghost use Rattle.std.specs.Prelude.{◌≡◌, List, map, length, true};
     ghost use Rattle.model.specs.Units.{UnitRecord};
     ghost use Rattle.units.specs.Records.{record_of, sound_rows};
-    ghost use Rattle.units.specs.Rebuilt.{rows_of, rows_again};
 
     ghost Value = { List UnitRecord };
 
     ghost view = { λ t. map record_of t.rows };
 
     ghost invariant = { λ t. (length t.rows ≡ 16) × (sound_rows t.rows ≡ true) };
-
-    ghost inverse = { λ us. record { rows = rows_of us } };
-
-    ghost inverse_ok = { λ t h i. record { rows = rows_again t.rows h.1 i } };
 }

@@ -50,7 +50,7 @@ impl Rows {
     pub fn set_sense(&mut self, index: usize, sense: Sense)
         ensures { self.new ≡ alter index (with_sense sense) self.old }
     {
-        // By index: of a row that a slice's get_mut lent, nothing is known afterwards.
+        // By index, as in `put_to`.
         if index < self.rows.len() {
             self.rows[index].set_sense(sense);
         }

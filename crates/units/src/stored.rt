@@ -2,10 +2,26 @@
 // Not a list of `lists`, which keeps its memory to itself: a candidate is compared over the whole array, whatever is stored in it.
 ghost use Rattle.std.specs.Prelude.{◌≡◌, ◌≤◌, true, length, replicate};
 
-#[derive(Clone, Copy)]
 pub struct Stored<const N: usize> {
-    pub bytes: [u8; N],
-    pub len: u8,
+    pub(crate) bytes: [u8; N],
+    pub(crate) len: u8,
+}
+
+// Takes bytes that nothing keeps, and asks that they are zeros.
+fn let_go<const N: usize>(bytes: [u8; N])
+    requires { bytes ≡ replicate N 0 }
+{
+    let _ = bytes;
+}
+
+// Where one goes, its bytes are zeroed first. `let_go` asks for that: of a value that goes, a clause of `drop` could only say what it was.
+// It says nothing of the machine's memory: a compiler may leave out what is stored where nobody reads any more, and LLVM does today.
+impl<const N: usize> Drop for Stored<N> {
+    fn drop(mut self) {
+        self.bytes[..].fill(0);
+        let Stored { bytes, len: _ } = self;
+        let_go(bytes);
+    }
 }
 
 // That it is tidy is asked in clauses: a row is changed field by field while it is lent, and the table bounds all rows.
@@ -13,7 +29,7 @@ impl<const N: usize> Stored<N> {
     ghost use Rattle.units.specs.Kept.{stored, tidy};
 
     // Nothing is stored.
-    pub fn new() -> Self
+    pub(crate) fn new() -> Self
         ensures bytes { result.bytes ≡ replicate N 0 }
         ensures len { result.len ≡ 0 }
     {
@@ -43,15 +59,5 @@ impl<const N: usize> Stored<N> {
         ensures { result.now ≡ stored self.now }
     {
         &self.bytes[..usize::from(self.len)]
-    }
-}
-
-// By hand, since a derive does not say which value it makes.
-impl<const N: usize> Default for Stored<N> {
-    ghost is_default = { λ s. (s.bytes ≡ replicate N 0) × (s.len ≡ 0) };
-
-    // Nothing is stored.
-    fn default() -> Self {
-        Self::new()
     }
 }

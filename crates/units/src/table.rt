@@ -13,9 +13,9 @@ ghost use Rattle.units.specs.declared.row.Row.{Row};
 
 use crate::row::Row;
 use crate::rows::Rows;
-use model::limits::MOST_UNITS;
 use model::refusal::Refusal;
 use parts::put::UnitPut;
+use std::array;
 use std::ops::Range;
 
 impl Rows {
@@ -24,7 +24,7 @@ impl Rows {
         ensures { result ≡ replicate 16 new_unit }
     {
         Rows {
-            rows: [Row::new(); MOST_UNITS],
+            rows: array::from_fn(|_| Row::new()),
         }
     }
 
@@ -69,22 +69,12 @@ impl Rows {
         ensures code { number_of result ≡ (if nat_lt index 16 then (turned negotiable (put_of put.entry) (slice_index_or self.old index new_unit)).code else refusal_number Absent) }
         ensures after { self.new ≡ alter index (λ u. (turned negotiable (put_of put.entry) u).after) self.old }
     {
-        // By index: of a row that a slice's get_mut lent, a proof knows nothing afterwards. One function over a closure, as interfaces have, is
-        // no plainer: it would have to ask of the closure that it keeps a row sound, and a copy of a row would leave its passphrase behind.
+        // By index: of a row that a slice's get_mut lent, a proof knows nothing afterwards. One function over a closure, as interfaces have,
+        // would have to ask of the closure that it keeps a row sound.
         if index < self.rows.len() {
             self.rows[index].put(put, negotiable)
         } else {
             Err(Refusal::Absent)
         }
-    }
-}
-
-// By hand, since a derive does not say which value it makes.
-impl Default for Rows {
-    ghost is_default = { λ rows. rows ≡ replicate 16 new_unit };
-
-    // Sixteen new units.
-    fn default() -> Rows {
-        Rows::new()
     }
 }

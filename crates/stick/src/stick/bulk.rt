@@ -70,7 +70,7 @@ impl<M: Medium> Running<M> {
     }
 
     // The wrapper for an interface that there is and that is not jammed.
-    fn unwrap(
+    fn open_wrapper(
         &mut self,
         interface: u8,
         cbw: &[u8],
@@ -98,7 +98,7 @@ impl<M: Medium> Running<M> {
         if self.interfaces.is_jammed(interface) {
             return Err(Refusal::Jammed);
         }
-        self.unwrap(interface, cbw, buffer)
+        self.open_wrapper(interface, cbw, buffer)
     }
 
     // A bulk command with an interface number, a CBW and a data buffer: the CSW, and how many bytes are answered at the buffer's front.
@@ -112,7 +112,7 @@ impl<M: Medium> Running<M> {
         ensures layout { self.new.layout ≡ self.old.layout }
         ensures bound { IfOk result (λ c. c.answered ≤ length buffer.new) }
     {
-        self.is_present()?;
+        self.presence()?;
         self.reach(interface, cbw, buffer)
     }
 }

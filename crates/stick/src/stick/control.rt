@@ -39,7 +39,7 @@ fn nothing(done: Result<(), Refusal>) -> Result<Answer, Refusal>
 
 impl<M: Medium> Running<M> {
     // Refuses while the stick idles or is gone in an interface change.
-    pub(super) fn is_present(&self) -> Result<(), Refusal>
+    pub(super) fn presence(&self) -> Result<(), Refusal>
         ensures { result ≡ presence (stick_of M.meaning self.now).phase }
     {
         match self.phase {
@@ -77,7 +77,7 @@ impl<M: Medium> Running<M> {
         ensures room { IfOk result (λ a. length a ≤ length «data».now) }
         ensures layout { self.new.layout ≡ self.old.layout }
     {
-        self.is_present()?;
+        self.presence()?;
         let asked = read_setup(setup)?;
         self.serve(asked, data)
     }

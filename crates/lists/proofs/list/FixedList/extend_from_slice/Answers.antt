@@ -1,17 +1,7 @@
 use Rattle.std.proofs.Common.{◌≡◌, ◌+◌, ◌-◌, ◌++◌, min, length, take, ap, ◌∙◌, arith, rules, length-take-le}
-use Rattle.std.proofs.lemmas.Grind.{common_steps}
-use Rattle.std.proofs.lemmas.Slice.{take-put_mid, drop-put_mid}
-use Rattle.lists.proofs.Fronts.{blank_behind, take_fitting}
+use Rattle.std.proofs.lemmas.Slice.{take-put_mid}
+use Rattle.lists.proofs.Fronts.{take_fitting}
 use Rattle.lists.proofs.list.FixedList.extend_from_slice.Goals as goal
-
-pub invariant_of-self : goal.invariant_of-self
-invariant_of-self g c =
-    let xs = c.self.inside.elements in
-    let n = c.self.inside.len in
-    let k = c.min-fitting.result in
-    let put = c.copy_from_slice.new.self in
-    let long : length put ≡ n + k - n = search rules in
-    (omega arith, search rules, drop-put_mid n (n + k - n) xs put (n + k) (omega arith) (omega arith) long ∙ blank_behind n k g.row.N xs g.T.Blank.BLANK c.self.invariant.2)
 
 pub returns-clause-value : goal.returns-clause-value
 returns-clause-value g c =
@@ -28,6 +18,3 @@ returns-clause-value g c =
     ∙ ap (λ ys. take n xs ++ ys) what
     ∙ take_fitting g.row.N k (take n xs) more fits (omega (arith, old))
     ∙ ap (λ ys. take g.row.N (ys ++ more)) c.self.view_is
-
-pub returns-clause-whole : goal.returns-clause-whole
-returns-clause-whole g c = grind (arith, common_steps)

@@ -1,5 +1,4 @@
-use Rattle.std.proofs.Common.{arith, rules}
-use Rattle.std.proofs.lemmas.Grind.{common_steps}
+use Rattle.std.proofs.Common.{rules}
 use Rattle.std.proofs.Math.Seq.{take-set-lt}
 use Rattle.lists.proofs.list.FixedList.set.Goals as goal
 
@@ -8,9 +7,3 @@ returns-then-at-self g c =
     let inside = c.self.inside in
     let within = take-set-lt inside.len inside.elements c.args.at c.args.element c.if-at-self.true in
     search (rules, within)
-
-pub invariant_of-self : goal.invariant_of-self
-invariant_of-self g c = grind (arith, common_steps)
-
-pub returns-else-at-self : goal.returns-else-at-self
-returns-else-at-self g c = grind (arith, common_steps)

@@ -1,6 +1,0 @@
-use Rattle.std.proofs.Common.{arith}
-use Rattle.std.proofs.lemmas.Grind.{common_steps}
-use Rattle.lists.proofs.list.FixedList.truncate.Goals as goal
-
-pub returns : goal.returns
-returns g c = grind (arith, common_steps)
