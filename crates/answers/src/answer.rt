@@ -1,4 +1,4 @@
-// A whole answer: the bytes that a control transfer sends to the host, before they go into its buffer.
+// An answer to a control transfer before its bytes go into the buffer: whole, or cut to what the host wants.
 // Callers see an answer as the list of its bytes.
 ghost use Rattle.std.specs.Prelude.{◌≡◌, ◌+◌, ◌≤◌, [], ◌++◌, length};
 

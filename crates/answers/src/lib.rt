@@ -1,4 +1,4 @@
-// Whole answers to control transfers, before they go into a buffer.
+// Answers to control transfers, before they go into a buffer.
 // Lock Data are the longest of them.
 #![tactic(auto)]
 

@@ -30,7 +30,7 @@ fn run_bench(rt: &HostRuntime) -> anyhow::Result<bool> {
     let Some(fit) = chosen_fit(rt, USAGE, words.as_slice())? else {
         return Ok(false);
     };
-    let Some(memory) = inspected_memory(rt, &fit)? else {
+    let Some(memory) = inspected_memory(rt, "", &fit)? else {
         return Ok(false);
     };
     match fit.make {

@@ -30,7 +30,7 @@ fn memory_of_the_own_stick(rt: HostRuntime) -> Result<(), Fail> {
 fn the_own_stick(rt: HostRuntime) -> Result<(), Fail> {
     let own = chosen_fit(&rt, "", &[]);
     let memory = match &own {
-        Ok(Some(fit)) => inspected_memory(&rt, fit),
+        Ok(Some(fit)) => inspected_memory(&rt, "", fit),
         _ => Ok(None),
     };
     assert!(rt; matches!(&memory, Ok(Some(bytes)) if bytes.len() == 32768));

@@ -7,7 +7,8 @@ ghost use Rattle.commands.specs.Transfers.{HasRoom, moved_of, loaded, kept};
 
 use crate::span::Span;
 use crate::stops::Stopped;
-use medium::{Medium, PAGE};
+use medium::Medium;
+use model::limits::BLOCK_BYTES;
 use model::refusal::Fault;
 
 // Reads the block of the span so many blocks on.
@@ -44,8 +45,8 @@ pub(crate) fn read_blocks<M: Medium>(
 {
     // By its place: of a buffer that `chunks_exact_mut` lent out, a proof knows the length afterwards, and no byte.
     for moved in 0..span.count {
-        let at = PAGE * usize::from(moved);
-        read_block(medium, span, moved, &mut buffer[at..at + PAGE]).map_err(|fault| Stopped {
+        let at = BLOCK_BYTES * usize::from(moved);
+        read_block(medium, span, moved, &mut buffer[at..at + BLOCK_BYTES]).map_err(|fault| Stopped {
             moved,
             fault,
         })?;
@@ -64,7 +65,7 @@ pub(crate) fn write_blocks<M: Medium>(
     ensures short { IfErr result (λ s. s.moved < span.count) }
     ensures after { M.meaning medium.new ≡ kept span.count (span.start + span.address) buffer.now (M.meaning medium.old) }
 {
-    for (moved, part) in (0..span.count).zip(buffer.chunks_exact(PAGE)) {
+    for (moved, part) in (0..span.count).zip(buffer.chunks_exact(BLOCK_BYTES)) {
         write_block(medium, span, moved, part).map_err(|fault| Stopped { moved, fault })?;
     }
     Ok(())

@@ -1,6 +1,6 @@
 // READ(10) and WRITE(10) on a unit, once they passed their checks.
-// A medium's fault becomes the sense of the command, with the address in the unit.
-ghost use Rattle.std.specs.Prelude.{◌≡◌, ◌+◌, ◌*◌, ◌≤◌, length, if◌then◌else◌, is_ok, None, MatchResult};
+// A medium's fault, whichever it is, becomes the sense of its direction, with the address in the unit.
+ghost use Rattle.std.specs.Prelude.{◌≡◌, ◌+◌, ◌*◌, ◌≤◌, length, if◌then◌else◌, is_ok, MatchResult};
 ghost use Rattle.model.specs.Commands.{good_run, bytes_from, read_blocks, write_blocks};
 ghost use Rattle.model.specs.declared.command.Status.TheVariants.{Passed, Failed};
 ghost use Rattle.model.specs.declared.sense.Sense.TheVariants as sense;

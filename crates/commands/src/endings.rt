@@ -1,6 +1,6 @@
 // The ways in which a command ends, each with its status and sense.
 // None of them looks at the medium; how a transfer of blocks ends is told in `disk`.
-ghost use Rattle.std.specs.Prelude.{◌≡◌, ℕ, ◌*◌, ◌<◌, ◌≤◌, min, List, length, take};
+ghost use Rattle.std.specs.Prelude.{◌≡◌, ℕ, ◌≤◌, min, List, length, take};
 ghost use Rattle.model.specs.Blocks.{Block};
 ghost use Rattle.model.specs.Commands.{failed, told};
 ghost use Rattle.commands.specs.Endings.{ending_of, front};

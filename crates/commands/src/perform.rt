@@ -1,7 +1,7 @@
 // A command on its unit: weighed in order, then its data.
 // The buffer is weighed first of all, so that its refusal says nothing of the command or of the unit.
-ghost use Rattle.std.specs.Prelude.{◌≡◌, ◌≤◌, false, length, IfOk, None};
-ghost use Rattle.model.specs.Commands.{failure as failure_of, meant as meant_by, moving, performed};
+ghost use Rattle.std.specs.Prelude.{◌≡◌, ◌≤◌, length, IfOk, None};
+ghost use Rattle.model.specs.Commands.{failure as failure_of, meant as meant_by, moving};
 ghost use Rattle.commands.specs.Endings.{carried_of, carried_out, ending_of, front};
 
 use crate::disk;

@@ -25,9 +25,10 @@ pub fn chosen_fit<R: Eprint + AllocGlobal>(
     }
 }
 
-// Memory of zeros for a stick that passes inspection, or none: the refusal is told on standard error then.
+// Memory of zeros for a stick that passes inspection, or none: the refusal is told on standard error then, behind the stick's name.
 pub fn inspected_memory<R: Eprint + AllocGlobal>(
     rt: &R,
+    stick: &str,
     fit: &Fit,
 ) -> anyhow::Result<Option<Vec<u8>>>
     ensures zeros { IfOk result (λ memory. IfSome memory (λ v. v.items ≡ replicate (length v.items) 0)) }
@@ -37,7 +38,7 @@ pub fn inspected_memory<R: Eprint + AllocGlobal>(
         Ok(memory) => Ok(Some(memory)),
         Err(FitError::OutOfMemory) => Err(FitError::OutOfMemory.into()),
         Err(error) => {
-            eprintln!(rt; "{error}")?;
+            eprintln!(rt; "{stick}{error}")?;
             Ok(None)
         }
     }

@@ -1,4 +1,4 @@
-// What the programs do alike at the edge: they read lines, fit the sticks of a command line, and tell what is wrong on standard error.
+// What the programs do alike at the edge: they serve lines, read and inspect the stick of a command line, and tell what is wrong on standard error.
 // What a line or an option means stands in the libraries below.
 #![tactic(auto)]
 

@@ -8,7 +8,7 @@ use anyhow::anyhow;
 use std::io::{BufRead, BufReader, Read};
 
 // Serves each line, with its number from 1 on, to what the lines before made. What is wrong with a line is told on standard error behind
-// the place that the lines come from; nothing more is read then, and nothing is answered. What keeps a line from being read is an error.
+// the place that the lines come from; nothing more is read then, and the result is none. What keeps a line from being read is an error.
 pub fn serve_lines<R, B, S, F>(
     rt: &R,
     source: B,

@@ -8,7 +8,7 @@ use crate::error::LineError;
 use std::alloc::{AllocError, Global};
 
 // The value of a hexadecimal digit. Not by `to_digit`: what a script is written with, digits and event letters, is told case by case.
-pub(crate) fn digit(c: char) -> Option<u8>
+fn digit(c: char) -> Option<u8>
     ensures value { result ≡ digit_value c }
     ensures bound { MatchOption result (digit_value c ≡ None) (λ d. d < 16) }
 {

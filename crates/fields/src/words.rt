@@ -1,5 +1,5 @@
 // The words of a line: what stands between its blanks.
-// A word is lent from the line, and each character is looked at once.
+// A word is lent from the line, and nothing is copied.
 ghost use Rattle.std.specs.Prelude.{◌≡◌, ◌<◌, ◌≤◌, ◌==◌, [], ◌∷◌, length, IfSome, MatchOption};
 ghost use Rattle.std.specs.List.{prefix_len, position};
 ghost use Rattle.fields.specs.Words.{in_word, words};

@@ -40,7 +40,7 @@ const DEVICE: u16 = 0x0100;
 
 const CONFIGURATION: u16 = 0x0200;
 
-// The bytes of a part around its text, two before it and one behind, and the most that a passphrase, a hint and access data have.
+// The bytes of a part around its text, two before it and one behind; the most that a passphrase and a hint have; and the bytes of access data.
 const AROUND: u16 = 3;
 
 const PHRASE: u16 = PHRASE_BYTES as u16;
@@ -60,7 +60,7 @@ fn descriptor_asked(value: u16) -> Result<Request, Refusal>
     }
 }
 
-// What the setup bytes ask for; they are unlisted where they are not 8 bytes, or listed with no wLength.
+// What the setup bytes ask for. They are unlisted where they are not 8 bytes, or no wLength would make them a listed request.
 pub fn read_setup(setup: &[u8]) -> Result<Asked, Refusal>
     ensures asked { result_ok result ≡ requested setup.now }
     ensures refusal { IfErr result (λ r. r ≡ Unlisted) }
@@ -134,7 +134,7 @@ pub fn is_put_length(put: Put, length: u16) -> bool
 }
 
 // Whether a request may have this wLength, whatever arrives with it.
-pub(crate) fn is_length_allowed(request: Request, length: u16) -> bool
+fn is_length_allowed(request: Request, length: u16) -> bool
     ensures { result ≡ length_allowed request length }
 {
     match request {

@@ -1,4 +1,5 @@
 // The device descriptor and the bundle: the configuration descriptor with all its interfaces and endpoints.
+// Each is made of constant pieces, in which the layout and the IDs presented fill in a few bytes.
 ghost use Rattle.std.specs.Prelude.{◌≡◌, ◌<◌, ◌≤◌, [], ◌∷◌, length};
 ghost use Rattle.model.specs.Descriptors.{weighed, product_bits, device_descriptor, configuration, interface_piece, bundle};
 
@@ -39,7 +40,7 @@ pub const LONGEST_BUNDLE: usize = CONFIGURATION_BYTES + PIECE_BYTES * MOST_INTER
 // USB 2.00, low byte first.
 const USB_2_00: [u8; 2] = [0x00, 0x02];
 
-// Where a field says nothing: the interfaces have classes and not the stick, and most strings and options there are not.
+// What a field says of what there is not: a class of the whole stick, a string but the serial number, an option.
 const NONE: u8 = 0x00;
 
 // The bytes of a packet, of control transfers and of both endpoints.

@@ -57,7 +57,7 @@ impl Interfaces {
         self.list = cleared;
     }
 
-    // One interface presents the target; the others keep their IDs.
+    // One interface presents the target, with no jam; the others stay.
     pub fn present(&mut self, interface: u8, target: Ids)
         ensures list { self.new ≡ alter interface (λ x. interface_with target false) self.old }
         ensures count { length self.new ≡ length self.old }

@@ -1,6 +1,6 @@
 // The interfaces of a stick: their value is the list of those that the layout has.
 // In fixed memory, which has room for as many as a layout may have.
-ghost use Rattle.std.specs.Prelude.{◌≡◌, ◌<◌, [], ◌∷◌, ◌++◌, false, length, take, slice_index_or};
+ghost use Rattle.std.specs.Prelude.{◌≡◌, [], ◌∷◌, ◌++◌, false, take, slice_index_or};
 ghost use Rattle.model.specs.Sticks.{interface as interface_with};
 ghost use Rattle.model.specs.declared.ids.Ids.TheVariants.{ScsiBbb};
 

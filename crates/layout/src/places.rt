@@ -1,6 +1,6 @@
 // Units in the whole stick: numbered through, interface 0 first.
 // By its address a unit is found, and by a block of the medium the unit that holds it.
-ghost use Rattle.std.specs.Prelude.{◌≡◌, ◌<◌, ◌≤◌, take, length, IfSome};
+ghost use Rattle.std.specs.Prelude.{◌≡◌, ◌<◌, ◌≤◌, length, IfSome};
 ghost use Rattle.model.specs.Extents.{found, Finds};
 ghost use Rattle.model.specs.Control.{find_unit};
 ghost use Rattle.model.specs.Layouts.{place_start, place_count, sum};

@@ -1,6 +1,6 @@
 // The layout as a fitted stick keeps it: its value is the model's layout.
 // Fixed memory holds what it tables, and its invariant bounds that.
-ghost use Rattle.std.specs.Prelude.{◌≡◌, ◌%◌, ◌<◌, ◌≤◌, length, nat_lt};
+ghost use Rattle.std.specs.Prelude.{◌≡◌, ◌%◌, ◌≤◌, length, nat_lt};
 ghost use Rattle.model.specs.Bulk.{place_at};
 ghost use Rattle.model.specs.Layouts.{sum};
 

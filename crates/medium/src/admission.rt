@@ -11,7 +11,7 @@ use model::refusal::Fault;
 
 // The answer to a call for a block with `length` bytes, wherever on whatever memory the blocks lie.
 // It serves any runs and any number of blocks, and the method below a Store's own.
-pub fn admit(runs: &[BadRun], count: u32, block: u32, length: usize) -> Result<(), Fault>
+pub(crate) fn admit(runs: &[BadRun], count: u32, block: u32, length: usize) -> Result<(), Fault>
     ensures within { OnOk result ((block < count) × (length ≡ 512)) }
     ensures answer { (memory : List ℕ) (at : ℕ → ℕ) → result ≡ answer (mapped_blocks memory runs.now at count) block length }
 {
@@ -25,8 +25,8 @@ pub fn admit(runs: &[BadRun], count: u32, block: u32, length: usize) -> Result<(
 }
 
 impl<const SPARE: u8> Store<SPARE> {
-    // The answer to a call for one of the blocks that lie here.
-    pub fn admit(&self, block: u32, length: usize) -> Result<(), Fault>
+    // The same over the runs and the number of blocks of this store.
+    pub(crate) fn admit(&self, block: u32, length: usize) -> Result<(), Fault>
         ensures within { OnOk result ((block < self.now.count) × (length ≡ 512)) }
         ensures answer { (memory : List ℕ) (at : ℕ → ℕ) → result ≡ answer (mapped_blocks memory self.now.runs.items at self.now.count) block length }
     {

@@ -7,7 +7,7 @@ use extents::find;
 use model::layout::BadRun;
 
 // Whether a bad run holds the block.
-pub fn is_bad(runs: &[BadRun], block: u32) -> bool
+pub(crate) fn is_bad(runs: &[BadRun], block: u32) -> bool
     ensures { result ≡ is_bad runs.now block }
 {
     find(runs, block).is_some()

@@ -12,7 +12,7 @@ use model::refusal::Refusal;
 const MOST_RUNS: usize = 8;
 
 // The number of blocks that so many bytes make with `spare` pages more than blocks, or the refusal where a rule is broken.
-pub fn inspect(spare: u8, bytes: usize, runs: &[BadRun]) -> Result<u32, Refusal>
+pub(crate) fn inspect(spare: u8, bytes: usize, runs: &[BadRun]) -> Result<u32, Refusal>
     ensures { result ≡ (if medium_rules spare bytes runs.now then Ok (bytes / 512 - spare) else Err BadMedium) }
 {
     let spare = usize::from(spare);

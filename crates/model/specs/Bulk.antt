@@ -14,7 +14,7 @@ use Rattle.model.specs.declared.ids.Phase.TheVariants.{Present}
 use Rattle.model.specs.declared.ids.Phase.TheVariants as phase
 use Rattle.model.specs.declared.layout.Place.{Place}
 use Rattle.model.specs.declared.refusal.Refusal.{Refusal}
-use Rattle.model.specs.declared.refusal.Refusal.TheVariants.{Idle, Gone, Absent, ShortBuffer, Jammed, BadCommandBlock}
+use Rattle.model.specs.declared.refusal.Refusal.TheVariants.{Idle, Gone, Absent, ShortBuffer, Jammed, BadWrapper}
 use Rattle.model.specs.declared.sense.Sense.{Sense}
 
 -- the refusal number or 0, the CSW, the bytes answered, and the stick afterwards
@@ -51,7 +51,7 @@ jammed x = interface x.ids true
 
 -- a CBW that is not in order jams its interface
 abbrev pub jam : ℕ → Stick → Completed
-jam i s = turned_down BadCommandBlock (with_interfaces (alter i jammed s.interfaces) s)
+jam i s = turned_down BadWrapper (with_interfaces (alter i jammed s.interfaces) s)
 
 abbrev pub addressed : Layout → ℕ → Option ℕ → Cbw → List ℕ → Stick → Completed
 addressed lay i None c ds s = jam i s

@@ -1,7 +1,7 @@
 -- The number of each refusal.
 use Rattle.std.specs.Prelude.{ℕ, Ok, Err, Result}
 use Rattle.model.specs.declared.refusal.Refusal.{Refusal}
-use Rattle.model.specs.declared.refusal.Refusal.TheVariants.{Layout, Medium, OutsideMedium, BadBlock, Idle, Gone, Unlisted, Absent, WrongLength, Recovering, WrongState, Malformed, Incorrect, ShortBuffer, Jammed, BadCommandBlock}
+use Rattle.model.specs.declared.refusal.Refusal.TheVariants.{Layout, Medium, OutsideMedium, BadBlock, Idle, Gone, Unlisted, Absent, WrongLength, Recovering, WrongState, Malformed, Incorrect, ShortBuffer, Jammed, BadWrapper}
 use Rattle.model.specs.declared.refusal.Fault.{Fault}
 use Rattle.model.specs.declared.refusal.Fault.TheVariants.{Outside, Bad}
 
@@ -21,7 +21,7 @@ refusal_number Malformed = 12
 refusal_number Incorrect = 13
 refusal_number ShortBuffer = 14
 refusal_number Jammed = 15
-refusal_number BadCommandBlock = 16
+refusal_number BadWrapper = 16
 
 -- the number that a call is answered with: 0 where it is accepted
 abbrev pub number_of : Result (Unit {0}) Refusal → ℕ

@@ -10,7 +10,7 @@ use Rattle.model.specs.declared.command.Direction.{Direction}
 use Rattle.model.specs.declared.command.Direction.TheVariants.{Out, In}
 use Rattle.model.specs.declared.command.Status.{Status}
 use Rattle.model.specs.declared.command.Status.TheVariants.{Passed, Failed, PhaseError}
-use Rattle.model.specs.declared.refusal.Refusal.TheVariants.{BadCommandBlock}
+use Rattle.model.specs.declared.refusal.Refusal.TheVariants.{BadWrapper}
 use Rattle.model.specs.declared.sense.Sense.TheVariants.{UnlistedCommand, InvalidField}
 
 -- the signature USBC
@@ -50,8 +50,8 @@ cbw_in bs = cond (length bs == 31 && (is_signed bs && is_covered bs)) (cbw_with 
 
 -- the judgement of a CBW against the highest unit of its interface: 16, or 0
 abbrev pub judged_unit : Option Cbw → ℕ → ℕ
-judged_unit None highest = refusal_number BadCommandBlock
-judged_unit (Some c) highest = cond (nat_le c.unit highest) 0 (refusal_number BadCommandBlock)
+judged_unit None highest = refusal_number BadWrapper
+judged_unit (Some c) highest = cond (nat_le c.unit highest) 0 (refusal_number BadWrapper)
 
 abbrev pub judged_cbw : List ℕ → ℕ → ℕ
 judged_cbw bs highest = judged_unit (cbw_in bs) highest

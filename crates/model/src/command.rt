@@ -2,7 +2,7 @@
 // Of a command only its kind and its numbers are kept; the bytes that it ignores are gone.
 ghost use Rattle.std.specs.Prelude.{◌≡◌, ok_or};
 ghost use Rattle.model.specs.Wrappers.{direction_told, status_number};
-ghost use Rattle.model.specs.declared.refusal.Refusal.TheVariants.{BadCommandBlock};
+ghost use Rattle.model.specs.declared.refusal.Refusal.TheVariants.{BadWrapper};
 
 use crate::refusal::Refusal;
 use crate::sense::Sense;
@@ -18,13 +18,13 @@ pub enum Direction {
 impl TryFrom<u8> for Direction {
     type Error = Refusal;
 
-    ghost try_from_gives = { λ n r. r ≡ ok_or (direction_told n) BadCommandBlock };
+    ghost try_from_gives = { λ n r. r ≡ ok_or (direction_told n) BadWrapper };
 
     fn try_from(flags: u8) -> Result<Direction, Refusal> {
         match flags {
             0x00 => Ok(Direction::Out),
             0x80 => Ok(Direction::In),
-            _ => Err(Refusal::BadCommandBlock),
+            _ => Err(Refusal::BadWrapper),
         }
     }
 }

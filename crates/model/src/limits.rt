@@ -1,12 +1,12 @@
-// How much of everything a stick may have, and the numbers that more than one of its parts speaks of.
-// Each is said here once, for all crates above.
+// The limits and other numbers that more than one crate speaks of.
+// What one crate alone speaks of stands there.
 
 // The interfaces of a stick, and the units of all of them.
 pub const MOST_INTERFACES: usize = 4;
 
 pub const MOST_UNITS: usize = 16;
 
-// The bytes of a passphrase and of a hint.
+// The most bytes of a passphrase and of a hint.
 pub const PHRASE_BYTES: usize = 50;
 
 pub const HINT_BYTES: usize = 100;

@@ -36,7 +36,7 @@ pub enum Refusal {
     // the interface is jammed
     Jammed,
     // the command block wrapper is not in order; this jams the interface
-    BadCommandBlock,
+    BadWrapper,
 }
 
 // The number that is reported for a refusal.
@@ -60,7 +60,7 @@ impl From<Refusal> for u8 {
             Refusal::Incorrect => 13,
             Refusal::ShortBuffer => 14,
             Refusal::Jammed => 15,
-            Refusal::BadCommandBlock => 16,
+            Refusal::BadWrapper => 16,
         }
     }
 }

@@ -1,5 +1,5 @@
 // Why the last command for a unit failed, as REQUEST SENSE tells it.
-// Key, code and qualifier of each are told once, in `sense_values` of the definitions.
+// Key, code and qualifier of each stand in the definition `sense_values`, and the crate `scsi` tells them.
 #[derive(Clone, Copy)]
 pub enum Sense {
     // no `Option` around the others: a host is told this one as them, 00h, 00h and 00h

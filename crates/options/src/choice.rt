@@ -38,7 +38,7 @@ pub enum FitError {
     OutOfMemory,
 }
 
-// The stick that is fitted: its layout bytes, and its medium of zeros.
+// The stick that is to be fitted: its layout bytes, and the make, the number of blocks and the bad runs of its medium.
 #[derive(Drop)]
 pub struct Fit {
     pub layout: Vec<u8>,

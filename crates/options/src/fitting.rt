@@ -61,7 +61,7 @@ impl From<AllocError> for FitError {
 
 impl Fit {
     // The bytes of the medium's memory, of no more blocks than a medium may have.
-    pub(crate) fn memory_bytes(&self) -> Result<usize, Refusal>
+    fn memory_bytes(&self) -> Result<usize, Refusal>
         ensures { result ≡ memory_said self.now.make self.now.blocks }
     {
         let blocks = self.blocks as usize;
@@ -72,7 +72,7 @@ impl Fit {
     }
 
     // Inspects the medium on this memory, then the layout.
-    pub(crate) fn inspect(&self, memory: &[u8]) -> Result<(), Refusal>
+    fn inspect(&self, memory: &[u8]) -> Result<(), Refusal>
         ensures { result ≡ inspected (fit_of self.now) (length memory.now) }
     {
         match self.make {
@@ -94,7 +94,7 @@ impl Fit {
 }
 
 // What is wrong with a stick that inspection refuses.
-pub(crate) fn reason(refusal: Refusal) -> &'static str
+fn reason(refusal: Refusal) -> &'static str
     ensures { result.now ≡ reason_text (refusal_number refusal) }
 {
     match refusal {

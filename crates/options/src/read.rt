@@ -11,9 +11,9 @@ use std::alloc::{AllocError, Global};
 use values::error::Mistake;
 
 pub const USAGE: &str =
-    "usage: bench [--layout HEX] [--medium straight|turning] [--blocks N] [--bad START:LENGTH,START:LENGTH]";
+    "usage: bench [--layout HEX] [--medium straight|turning] [--blocks N] [--bad START:LENGTH[,START:LENGTH]...] < SCRIPT";
 
-// The bench's own stick: 64 straight good blocks, and one unit on the first 40; all its IDs are 0.
+// The bench's own stick: 64 straight good blocks, one unit on the first 40, and zeros for idVendor, product base and bcdDevice.
 pub const OWN_LAYOUT: [u8; 16] = [0, 0, 0, 0, 0, 0, 1, 1, 0, 0, 0, 0, 40, 0, 0, 0];
 
 pub const OWN_BLOCKS: u32 = 64;

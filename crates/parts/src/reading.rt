@@ -1,5 +1,5 @@
 // The parts of a Put's data: candidate, passphrase and hint, each as long as its first byte says.
-// They pass the same order check, and are found by the same search, as runs and units.
+// They pass the same order check as runs and units. A Put takes them by their order; whoever asks which part holds a byte has the same search.
 ghost use Rattle.std.specs.Prelude.{◌≡◌, ◌+◌, ◌^◌, ◌<◌, ◌≤◌, true, ◌&&◌, length, take, IfSome, MatchOption, if◌then◌else◌, Some, None, ◌==◌};
 ghost use Rattle.std.specs.Option.{option_map};
 ghost use Rattle.std.specs.List.{AllByRecursion};

@@ -4,7 +4,7 @@ ghost use Rattle.std.specs.Prelude.{◌≡◌, ◌%◌, ◌&&◌, length, ok_or,
 ghost use Rattle.model.specs.Bytes.{between};
 ghost use Rattle.model.specs.Refusals.{number_of};
 ghost use Rattle.model.specs.Wrappers.{command_length, command_in, is_signed, cbw_in, judged_cbw};
-ghost use Rattle.model.specs.declared.refusal.Refusal.TheVariants.{BadCommandBlock};
+ghost use Rattle.model.specs.declared.refusal.Refusal.TheVariants.{BadWrapper};
 
 use model::command::{Cbw, Command, Direction};
 use model::refusal::Refusal;
@@ -108,7 +108,7 @@ fn is_covered(length: u8, code: u8) -> bool
 
 // What a CBW asks for, or the refusal of one that is not in order.
 pub fn read_cbw(cbw: &[u8]) -> Result<Cbw, Refusal>
-    ensures { result ≡ ok_or (cbw_in cbw.now) BadCommandBlock }
+    ensures { result ≡ ok_or (cbw_in cbw.now) BadWrapper }
 {
     let [
         _,
@@ -130,10 +130,10 @@ pub fn read_cbw(cbw: &[u8]) -> Result<Cbw, Refusal>
         ..
     ] = *cbw
     else {
-        return Err(Refusal::BadCommandBlock);
+        return Err(Refusal::BadWrapper);
     };
     if cbw.len() != CBW_LENGTH || !is_signed(cbw) || !is_covered(length, code) {
-        return Err(Refusal::BadCommandBlock);
+        return Err(Refusal::BadWrapper);
     }
     Ok(Cbw {
         tag: u32::from_le_bytes([t0, t1, t2, t3]),
@@ -150,7 +150,7 @@ pub fn judge_cbw(cbw: &[u8], highest: u8) -> Result<(), Refusal>
 {
     let read = read_cbw(cbw)?;
     if read.unit > highest {
-        return Err(Refusal::BadCommandBlock);
+        return Err(Refusal::BadWrapper);
     }
     Ok(())
 }

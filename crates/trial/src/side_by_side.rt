@@ -1,6 +1,6 @@
 // Two sticks side by side, over any two mediums: what is private stays private.
 // Nothing is assumed of what came before: the sticks are fitted here, and live through their histories here.
-ghost use Rattle.std.specs.Prelude.{◌≡◌, map};
+ghost use Rattle.std.specs.Prelude.{map};
 ghost use Rattle.privacy.specs.Instances.{Instances};
 ghost use Rattle.privacy.specs.Whole.{Private};
 ghost use Rattle.stick.specs.Meaning.{stick_of};
@@ -28,7 +28,8 @@ fn live<M: Medium>(
 }
 
 // Two sticks, each fitted, powered up and run through a history of its own, and both through further events: every event gets the reply
-// that is defined for it, and where both were handed the same further events, a Locked unit's secret shows in none of them.
+// that is defined for it. Where both were handed the same further events and stand alike but for a Locked unit's secret, it shows in no reply
+// before the first event in which either accepts a candidate for that unit.
 // The lists are lent one by one, since each is written to: behind a struct of lent lists a clause would tell what they hold afterwards as nested
 // pairs, by no name, and a struct that owns them would ask callers to give theirs up.
 pub fn side_by_side<M: Medium, N: Medium>(

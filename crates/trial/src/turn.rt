@@ -18,7 +18,7 @@ pub struct Done {
 pub type Reply = Result<Done, Refusal>;
 
 // No event was performed yet, or one that answers nothing.
-pub const NOTHING: Reply = Ok(Done {
+pub(crate) const NOTHING: Reply = Ok(Done {
     csw: None,
     answered: 0,
 });

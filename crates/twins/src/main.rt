@@ -20,7 +20,7 @@ use trial::side_by_side::side_by_side;
 use trial::turn::Turn;
 
 const USAGE: &str = "usage: twins FIRST SECOND COMMON [OPTIONS] [-- OPTIONS]
-FIRST and SECOND set the two sticks up, COMMON is for both; the options are the bench's, before -- for the first stick, behind it for the second";
+FIRST and SECOND set the two sticks up, COMMON is for both; the options are the bench's, for both sticks, or before -- for the first and behind it for the second";
 
 // A script as turns that are still to be taken, and the line that each stands on.
 // The two lists stay apart, since a run takes a list of turns alone, in place.
@@ -75,40 +75,61 @@ fn with_line(heap: Global, mut script: Script, line: &[u8], number: u64) -> anyh
     Ok(script)
 }
 
-// The script in a file, or none: what is wrong with it is told on standard error then.
-fn read_script(rt: &HostRuntime, path: &str) -> anyhow::Result<Option<Script>> {
-    let heap = rt.alloc();
-    let file = match fs::open(rt, path) {
-        Ok(file) => file,
-        Err(error) => {
-            eprintln!(rt; "{path}: {error}")?;
-            return Ok(None);
-        }
-    };
-    let none = Script {
-        turns: Vec::new(heap),
-        lines: Vec::new(heap),
-    };
-    let place = format!(in heap; "{path}, ")?;
-    serve_lines(rt, file, place.as_str(), none, |script, number, line| {
-        with_line(heap, script, line, number)
-    })
+// A script's file, read whole: the common one is read once, so that both sticks run the same even if it is a pipe.
+#[derive(Drop)]
+struct Source<'a> {
+    path: &'a str,
+    bytes: Vec<u8>,
 }
 
-// A stick on memory of its own, with the scripts in two files, or none.
+impl<'a> Source<'a> {
+    // The file, or none: that it cannot be read is told on standard error then.
+    fn read(rt: &HostRuntime, path: &'a str) -> anyhow::Result<Option<Source<'a>>> {
+        match fs::read(rt, path) {
+            Ok(bytes) => Ok(Some(Source { path, bytes })),
+            Err(error) => {
+                eprintln!(rt; "{path}: {error}")?;
+                Ok(None)
+            }
+        }
+    }
+
+    // The script that it holds, or none: what is wrong with it is told on standard error then.
+    fn script(&self, rt: &HostRuntime) -> anyhow::Result<Option<Script>> {
+        let heap = rt.alloc();
+        let none = Script {
+            turns: Vec::new(heap),
+            lines: Vec::new(heap),
+        };
+        let place = format!(in heap; "{}, ", self.path)?;
+        serve_lines(
+            rt,
+            self.bytes.as_slice(),
+            place.as_str(),
+            none,
+            |script, number, line| { with_line(heap, script, line, number) },
+        )
+    }
+}
+
+// A stick on memory of its own, with the script that sets it up and the common one, or none.
 fn prepared(
     rt: &HostRuntime,
+    stick: &str,
     fit: Fit,
     setup: &str,
-    common: &str,
+    common: &Source<'_>,
 ) -> anyhow::Result<Option<Inspected>> {
-    let Some(memory) = inspected_memory(rt, &fit)? else {
+    let Some(memory) = inspected_memory(rt, stick, &fit)? else {
         return Ok(None);
     };
-    let Some(setup) = read_script(rt, setup)? else {
+    let Some(setup) = Source::read(rt, setup)? else {
         return Ok(None);
     };
-    let common = read_script(rt, common)?;
+    let Some(setup) = setup.script(rt)? else {
+        return Ok(None);
+    };
+    let common = common.script(rt)?;
     Ok(common.map(|common| Inspected {
         fit,
         memory,
@@ -135,7 +156,7 @@ fn is_agreed(first: &Turn, second: &Turn) -> bool {
     first.reply == second.reply && first.event.buffer() == second.event.buffer()
 }
 
-// Says where the two records differ first.
+// Says at which line the replies, or the buffers afterwards, differ first.
 fn compare(rt: &HostRuntime, first: &Script, second: &Script) -> anyhow::Result<()> {
     for ((one, other), number) in first
         .turns
@@ -221,14 +242,16 @@ fn run_twins(rt: &HostRuntime) -> anyhow::Result<bool> {
         eprintln!(rt; "{USAGE}")?;
         return Ok(false);
     };
-    let common = common_path.as_str();
     let Some((first, second)) = chosen_fits(rt, rest)? else {
         return Ok(false);
     };
-    let Some(first) = prepared(rt, first, first_path.as_str(), common)? else {
+    let Some(common) = Source::read(rt, common_path.as_str())? else {
         return Ok(false);
     };
-    let Some(second) = prepared(rt, second, second_path.as_str(), common)? else {
+    let Some(first) = prepared(rt, "first stick: ", first, first_path.as_str(), &common)? else {
+        return Ok(false);
+    };
+    let Some(second) = prepared(rt, "second stick: ", second, second_path.as_str(), &common)? else {
         return Ok(false);
     };
     match first.fit.make {

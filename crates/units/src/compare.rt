@@ -17,8 +17,8 @@ fn differences(before: u8, one: &[u8], other: &[u8]) -> u8
 }
 
 impl<const N: usize> Stored<N> {
-    // Whether the candidate is what is stored. Every byte of the candidate is compared, whatever came before, and the lengths are
-    // compared in the same sum of differences.
+    // Whether the candidate is what is stored. One that is longer than the array differs by its length alone; of any other every byte is
+    // compared, whatever came before, and the lengths are compared in the same sum of differences.
     pub(crate) fn is_same(&self, candidate: &[u8]) -> bool
         requires small { N ≤ 255 }
         requires tidy { tidy self.now ≡ true }

@@ -1,8 +1,7 @@
-// What work steps see and make of the units that recover, and what showing the units anew clears.
+// What work steps see and make of the units that recover.
 // Past the table there are only new units, and nothing is kept of them.
-ghost use Rattle.std.specs.Prelude.{◌≡◌, ◌+◌, ◌*◌, ◌<◌, true, map, length, take, MatchOption, nat_le, slice_index_or};
+ghost use Rattle.std.specs.Prelude.{◌≡◌, ◌+◌, ◌*◌, ◌<◌, true, length, take, MatchOption, nat_le, slice_index_or};
 ghost use Rattle.model.specs.Control.{alter};
-ghost use Rattle.model.specs.Presence.{presented};
 ghost use Rattle.model.specs.Recovery.{is_recovering, steps_done_of, first_recovering, advanced};
 ghost use Rattle.model.specs.Units.{new_unit};
 ghost use Rattle.units.specs.Records.{record_of, sound_row};
@@ -14,7 +13,7 @@ use model::lock::LockState;
 
 impl Row {
     // Whether a recovery is under way.
-    pub(crate) fn is_recovering(&self) -> bool
+    fn is_recovering(&self) -> bool
         ensures { result ≡ is_recovering (record_of self.now).standing }
     {
         matches!(self.state, LockState::Recovering { .. })
@@ -71,15 +70,6 @@ impl Rows {
         // By index, as in `put_to`.
         if index < self.rows.len() {
             self.rows[index].advance(blocks);
-        }
-    }
-
-    // Every unit is shown anew.
-    pub fn present(&mut self)
-        ensures { self.new ≡ map presented self.old }
-    {
-        for row in &mut self.rows {
-            row.present();
         }
     }
 }

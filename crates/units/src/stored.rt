@@ -1,5 +1,5 @@
 // Bytes at the front of a fixed array, with zeros behind them.
-// Not a list of `lists`, which keeps its memory to itself: a candidate is compared over the whole array, whatever is stored in it.
+// Not a list of `lists`, which keeps its memory to itself: a candidate is compared with the array to its own end, past what is stored too.
 ghost use Rattle.std.specs.Prelude.{◌≡◌, ◌≤◌, true, length, replicate};
 
 pub struct Stored<const N: usize> {

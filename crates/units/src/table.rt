@@ -4,6 +4,7 @@ ghost use Rattle.std.specs.Prelude.{◌≡◌, Bool, map, replicate, if◌then�
 ghost use Rattle.std.specs.Fn.{FnReturnsAt};
 ghost use Rattle.parts.specs.Carries.{put_of};
 ghost use Rattle.model.specs.Control.{alter};
+ghost use Rattle.model.specs.Presence.{presented};
 ghost use Rattle.model.specs.Puts.{turned};
 ghost use Rattle.model.specs.Refusals.{number_of, refusal_number};
 ghost use Rattle.model.specs.declared.refusal.Refusal.TheVariants.{Absent};
@@ -34,6 +35,15 @@ impl Rows {
     {
         for row in &mut self.rows {
             row.power_up();
+        }
+    }
+
+    // An interface presents its target: of every unit the accepted flag and the sense are cleared.
+    pub fn present(&mut self)
+        ensures { self.new ≡ map presented self.old }
+    {
+        for row in &mut self.rows {
+            row.present();
         }
     }
 

@@ -6,7 +6,7 @@ use crate::MOST_BLOCKS;
 use std::array;
 
 // Block b on page b.
-pub fn identity() -> [u16; MOST_BLOCKS]
+pub(crate) fn identity() -> [u16; MOST_BLOCKS]
     ensures full { length result ≡ 1024 }
     ensures places { (b : ℕ) → b < 1024 → slice_index result b ≡ b }
 {

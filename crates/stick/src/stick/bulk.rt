@@ -1,10 +1,10 @@
 // Bulk commands of a running stick.
 // A command is weighed before anything is touched; a wrapper that is not in order jams its interface, and nothing else does.
-ghost use Rattle.std.specs.Prelude.{◌≡◌, ℕ, ◌<◌, ◌≤◌, length, IfOk};
+ghost use Rattle.std.specs.Prelude.{◌≡◌, ◌<◌, ◌≤◌, length, IfOk};
 ghost use Rattle.model.specs.Bulk.{addressed, bulked, jam, on_interface, wrapped};
 ghost use Rattle.model.specs.Control.{find_unit};
 ghost use Rattle.model.specs.Wrappers.{cbw_in};
-ghost use Rattle.model.specs.declared.refusal.Refusal.TheVariants.{BadCommandBlock};
+ghost use Rattle.model.specs.declared.refusal.Refusal.TheVariants.{BadWrapper};
 ghost use Rattle.stick.specs.Completions.{bulk_of, handed_back, unit_commanded};
 ghost use Rattle.stick.specs.Meaning.{stick_of};
 
@@ -43,14 +43,14 @@ impl<M: Medium> Running<M> {
         })
     }
 
-    // A wrapper that is not in order: why it is turned down.
+    // Jams the interface of a wrapper that is not in order, and gives the refusal.
     fn jam(&mut self, interface: u8) -> Refusal
-        ensures refusal { result ≡ BadCommandBlock }
+        ensures refusal { result ≡ BadWrapper }
         ensures stick { stick_of M.meaning self.new ≡ (jam interface (stick_of M.meaning self.old)).next }
         ensures layout { self.new.layout ≡ self.old.layout }
     {
         self.interfaces.jam(interface);
-        Refusal::BadCommandBlock
+        Refusal::BadWrapper
     }
 
     // A wrapper that is in order, by the unit that it names. An absent unit makes it one that is not.

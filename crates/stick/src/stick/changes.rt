@@ -1,6 +1,6 @@
 // What control transfers change of a running stick: a unit's record, an interface's jam, or the identity to come.
 // Each asks first whether the interface or unit is there, then for the length, and then for what arrived.
-ghost use Rattle.std.specs.Prelude.{◌≡◌, ◌<◌, length};
+ghost use Rattle.std.specs.Prelude.{◌≡◌, length};
 ghost use Rattle.model.specs.Control.{access_sized, clear_jam, find_unit, interface_at, put as put_request, put_to_unit, sized, with_interface};
 ghost use Rattle.model.specs.Identities.{is_negotiable};
 ghost use Rattle.model.specs.Sticks.{units_of_interface};

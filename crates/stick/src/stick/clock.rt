@@ -80,11 +80,15 @@ impl<M: Medium> Running<M> {
     pub fn bus_suspend(&mut self)
         ensures stick { stick_of M.meaning self.new ≡ stick_of M.meaning self.old }
         ensures layout { self.new.layout ≡ self.old.layout }
-    {}
+    {
+        // no unit locks, and an interface change goes on: the clock alone moves it
+    }
 
     // Nor does a bus that resumes.
     pub fn bus_resume(&mut self)
         ensures stick { stick_of M.meaning self.new ≡ stick_of M.meaning self.old }
         ensures layout { self.new.layout ≡ self.old.layout }
-    {}
+    {
+        // there is nothing to take up again
+    }
 }

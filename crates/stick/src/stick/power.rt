@@ -1,12 +1,10 @@
 // Power: what a stick is when power comes, and what is left when it goes.
 // Layout, units' records and medium stay; interfaces are made anew, and an interface change is dropped.
-ghost use Rattle.std.specs.Prelude.{◌≡◌, false, map, length, if◌then◌else◌};
+ghost use Rattle.std.specs.Prelude.{◌≡◌, map, length, if◌then◌else◌};
 ghost use Rattle.std.specs.List.{range_with_len};
 ghost use Rattle.model.specs.Layouts.{fitted_layout};
-ghost use Rattle.model.specs.Sticks.{interface, interface_up, powered_up, repowered, fitted_units, first};
-ghost use Rattle.model.specs.Units.{any_phrase};
+ghost use Rattle.model.specs.Sticks.{interface_up, powered_up, repowered, fitted_units, first};
 ghost use Rattle.model.specs.declared.ids.Ids.TheVariants.{Negotiable, ScsiBbb};
-ghost use Rattle.units.specs.Records.{record_of};
 ghost use Rattle.stick.specs.Meaning.{units_in, stick_of};
 
 use super::{Running, Unpowered};

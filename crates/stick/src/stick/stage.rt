@@ -1,5 +1,5 @@
 // The data stage of a control transfer: the length that its setup gives, and the buffer that is handed over with it.
-// An answer is cut to both; what arrives has to fit both.
+// An answer is cut to the length, and refused where the buffer has no room for it; what arrives has to be of that length.
 ghost use Rattle.std.specs.Prelude.{◌≡◌, ◌≤◌, length, IfOk};
 ghost use Rattle.model.specs.Control.{answered, sized};
 ghost use Rattle.model.specs.Sticks.{Stick};
