@@ -11,4 +11,6 @@ mod mediums;
 #[cfg(test)]
 mod programs;
 #[cfg(test)]
+mod put_parts;
+#[cfg(test)]
 mod transfers;
