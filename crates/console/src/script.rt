@@ -20,43 +20,45 @@ use record::turn::turn_line;
 use std::alloc::{AllocError, Global};
 use std::io::Read;
 use stick::stick::Running;
-use trial::run::take_turn;
+use trial::run::take_turn_on;
 use trial::turn::Turn;
 
-// Performs an event: the stick afterwards, and the record of its reply with the newline.
-fn answered<M: Medium + Drop>(
+// Performs an event: the stick moves on, and the record of its reply is the answer, with the newline.
+// The stick stays where it is from line to line: to move it for each would cost more than most events.
+fn answered<M: Medium>(
     heap: Global,
-    stick: Running<M>,
+    stick: &mut Running<M>,
     event: Event,
-) -> Result<(Running<M>, Vec<u8>), AllocError>
-    ensures next { IfOk result (λ p. stick_of M.meaning p.0 ≡ (step stick.layout (stick_of M.meaning stick) (handed_event (event_of event))).next) }
-    ensures record { IfOk result (λ p. p.1.items ≡ reply_line (step stick.layout (stick_of M.meaning stick) (handed_event (event_of event))).reply ++ 0x0A ∷ []) }
-    ensures layout { IfOk result (λ p. p.0.layout ≡ stick.layout) }
+) -> Result<Vec<u8>, AllocError>
+    ensures next { IfOk result (λ _. stick_of M.meaning stick.new ≡ (step stick.old.layout (stick_of M.meaning stick.old) (handed_event (event_of event))).next) }
+    ensures record { IfOk result (λ v. v.items ≡ reply_line (step stick.old.layout (stick_of M.meaning stick.old) (handed_event (event_of event))).reply ++ 0x0A ∷ []) }
+    ensures layout { stick.new.layout ≡ stick.old.layout }
 {
     let event = handed(heap, event)?;
     let mut turn = Turn::new(event);
-    let stick = take_turn(stick, &mut turn);
+    take_turn_on(stick, &mut turn);
     let mut record = turn_line(heap, &turn)?;
     record.push(b'\n')?;
-    Ok((stick, record))
+    Ok(record)
 }
 
 // Performs the event of a line, and writes its record.
-fn serve_line<R, M>(rt: &R, stick: Running<M>, line: &[u8]) -> anyhow::Result<Running<M>>
+fn serve_line<R, M>(rt: &R, stick: &mut Running<M>, line: &[u8]) -> anyhow::Result<()>
 where
     R: Print + AllocGlobal,
-    M: Medium + Drop,
+    M: Medium,
     ensures said { IfOk result (λ _. is_ok (line_said line.now) ≡ true) }
-    ensures blank { line_said line.now ≡ Ok None → result ≡ Ok stick }
-    ensures next { IfOk result (λ t. stick_of M.meaning t ≡ stick_after stick.layout (stick_of M.meaning stick) (line_said line.now)) }
-    ensures layout { IfOk result (λ t. t.layout ≡ stick.layout) }
+    ensures blank { line_said line.now ≡ Ok None → result ≡ Ok tt }
+    ensures left { line_said line.now ≡ Ok None → stick.new ≡ stick.old }
+    ensures next { IfOk result (λ _. stick_of M.meaning stick.new ≡ stick_after stick.old.layout (stick_of M.meaning stick.old) (line_said line.now)) }
+    ensures layout { stick.new.layout ≡ stick.old.layout }
 {
     match read_line(rt.alloc(), line)? {
-        None => Ok(stick),
+        None => Ok(()),
         Some(event) => {
-            let (stick, record) = answered(rt.alloc(), stick, event)?;
+            let record = answered(rt.alloc(), stick, event)?;
             rt.write_all(record.as_slice())?;
-            Ok(stick)
+            Ok(())
         }
     }
 }
@@ -64,7 +66,7 @@ where
 // Serves the events of a script, and says whether it got to the end: a malformed line is told on standard error and ends it.
 // One that did not get there had a line that is not blank; no clause says more of it, nor what was written: memory and standard output have
 // no contract.
-pub fn serve_script<R, B, M>(rt: &R, source: B, stick: Running<M>) -> anyhow::Result<bool>
+pub fn serve_script<R, B, M>(rt: &R, source: B, mut stick: Running<M>) -> anyhow::Result<bool>
 where
     R: Print + Eprint + AllocGlobal,
     B: Read + Drop,
@@ -72,8 +74,18 @@ where
     ensures ended { IfOk result (λ ended. ended ≡ true → IfSome (B.remaining source) (λ xs. AllByRecursion (λ line. is_ok (line_said line) ≡ true) (lines xs))) }
     ensures stopped { IfOk result (λ ended. ended ≡ false → IfSome (B.remaining source) (λ xs. AllByRecursion (λ line. line_said line ≡ Ok None) (lines xs) → ⊥)) }
 {
-    let served = serve_lines(rt, source, "", stick, |stick, _, line| {
-        serve_line(rt, stick, line)
-    })?;
+    let served = serve_lines(
+        rt,
+        source,
+        "",
+        &mut stick,
+        |stick, _, line|
+            ensures said { IfOk result (λ _. is_ok (line_said line.now) ≡ true) }
+            ensures blank { line_said line.now ≡ Ok None → is_ok result ≡ true }
+        {
+            serve_line(rt, stick, line)?;
+            Ok(stick)
+        },
+    )?;
     Ok(served.is_some())
 }

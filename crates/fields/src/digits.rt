@@ -60,6 +60,7 @@ pub fn read_field(heap: Global, field: &[u8]) -> Result<Vec<u8>, LineError>
 pub fn push_hex(heap: Global, line: &mut Vec<u8>, bytes: &[u8]) -> Result<(), AllocError>
     ensures { OnOk result (line.new.items ≡ line.old.items ++ hex_text bytes.now) }
 {
-    line.extend_from_slice(hex::encode_upper(heap, bytes)?.as_bytes())?;
+    let text = hex::encode_upper(heap, bytes)?;
+    line.extend_from_slice(text.as_bytes())?;
     Ok(())
 }

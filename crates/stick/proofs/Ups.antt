@@ -1,15 +1,18 @@
 -- The units of an interface among the rows of the whole table.
 use Rattle.std.proofs.Common.{◌≡◌, ℕ, ◌+◌, ◌-◌, ◌≤◌, Bool, true, false, cond, ltb, List, [], ◌∷◌, ◌++◌, map, length, get_or, take, drop, Some, None, Option, MatchOption, subst, sym, refl, ap, ◌∙◌, arith}
 use Rattle.std.proofs.lemmas.Bool.{ltb-false}
-use Rattle.std.proofs.lemmas.List.{take-take, drop-take, get_or_past}
+use Rattle.std.proofs.lemmas.List.{take-take, take-map, drop-take, get_or_past}
 use Rattle.std.proofs.lemmas.List.FromFn.{map-range_with_len_more}
 use Rattle.std.specs.List.{range_with_len, slice_range}
 use Rattle.std.specs.Option.{IfSome}
 use Rattle.std.specs.declared.ops.Range.{Range}
 use Rattle.layout.specs.Ranges.{range, range_of}
 use Rattle.model.specs.Layouts.{Layout, sum}
-use Rattle.model.specs.Sticks.{units_of_interface}
-use Rattle.model.specs.Units.{UnitRecord}
+use Rattle.model.specs.Blocks.{Block}
+use Rattle.model.specs.Sticks.{stick, interface_up, powered_up, units_of_interface}
+use Rattle.model.specs.Units.{UnitRecord, powered}
+use Rattle.model.specs.declared.ids.Interface.{Interface}
+use Rattle.model.specs.declared.ids.Phase.TheVariants.{Present}
 use Rattle.stick.specs.Meaning.{units_in}
 
 -- a part of the first n elements is a part of all
@@ -53,3 +56,9 @@ module _ (test : List UnitRecord → Bool) (empty : test [] ≡ false) (lay : La
 pub ups_more : {A : Type 0} (up : ℕ → A) (i : ℕ) (x : A) (xs : List A) → x ≡ up i → xs ≡ map up (range_with_len 0 i) → xs ++ x ∷ [] ≡ map up (range_with_len 0 (i + 1))
 ups_more up i x xs is before =
     ap (λ ys. ys ++ x ∷ []) before ∙ ap (λ y. map up (range_with_len 0 i) ++ y ∷ []) is ∙ sym (map-range_with_len_more up 0 i i (omega arith))
+
+-- rows that were powered up, under the interfaces that come of the units before, are the powered-up stick
+pub all_up : (lay : Layout) (us vs : List UnitRecord) (is : List Interface) (m : List Block) → vs ≡ map powered us
+    → is ≡ map (interface_up lay (units_in lay us)) (range_with_len 0 (length lay.counts)) → stick (units_in lay vs) is Present m ≡ powered_up lay (units_in lay us) m
+all_up lay us vs is m up faces =
+    ap (λ ws. stick ws is Present m) (ap (units_in lay) up ∙ take-map powered (length lay.places) us) ∙ ap (λ js. stick (map powered (units_in lay us)) js Present m) faces

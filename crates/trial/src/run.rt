@@ -31,19 +31,18 @@ fn bulk_reply(res: Result<Completion, Refusal>) -> Reply
     res.map(Done::from)
 }
 
-// Performs an event; its buffer holds afterwards what the stick left in it, and nothing else of it is changed.
-// Each way hands the stick back, since a power cycle takes it. What stays of an event or a list is said in each clause `kept`: it is a fact of
-// two values, which no type of one can say.
-pub fn perform<M: Medium>(mut stick: Running<M>, event: &mut Event) -> (Running<M>, Reply)
-    ensures bound { count_of result.1 ≤ length (buffer_of event.new) }
+// Performs an event on a stick where it stands; its buffer holds afterwards what the stick left in it, and nothing else of it is changed.
+// What stays of an event or a list is said in each clause `kept`: it is a fact of two values, which no type of one can say.
+pub fn perform_on<M: Medium>(stick: &mut Running<M>, event: &mut Event) -> Reply
+    ensures bound { count_of result ≤ length (buffer_of event.new) }
     ensures kept { unhanded (event_of event.new) ≡ unhanded (event_of event.old) }
-    ensures step { stepped (reply_of result.1 (buffer_of event.new)) (stick_of M.meaning result.0) ≡ step stick.layout (stick_of M.meaning stick) (event_of event.old) }
-    ensures layout { result.0.layout ≡ stick.layout }
+    ensures step { stepped (reply_of result (buffer_of event.new)) (stick_of M.meaning stick.new) ≡ step stick.old.layout (stick_of M.meaning stick.old) (event_of event.old) }
+    ensures layout { stick.new.layout ≡ stick.old.layout }
 {
     match event {
         Event::Control { setup, data } => {
             let result = stick.control(setup.as_slice(), data.as_mut_slice());
-            (stick, control_reply(result))
+            control_reply(result)
         }
         Event::Bulk {
             interface,
@@ -51,33 +50,56 @@ pub fn perform<M: Medium>(mut stick: Running<M>, event: &mut Event) -> (Running<
             data,
         } => {
             let result = stick.bulk(*interface, cbw.as_slice(), data.as_mut_slice());
-            (stick, bulk_reply(result))
+            bulk_reply(result)
         }
         Event::Work => {
             stick.work();
-            (stick, NOTHING)
+            NOTHING
         }
         Event::Clock { milliseconds } => {
             stick.clock(*milliseconds);
-            (stick, NOTHING)
+            NOTHING
         }
         Event::BusReset => {
             stick.bus_reset();
-            (stick, NOTHING)
+            NOTHING
         }
         Event::BusSuspend => {
             stick.bus_suspend();
-            (stick, NOTHING)
+            NOTHING
         }
         Event::BusResume => {
             stick.bus_resume();
-            (stick, NOTHING)
+            NOTHING
         }
-        Event::PowerCycle => (stick.power_cycle(), NOTHING),
+        Event::PowerCycle => {
+            stick.cycle_power();
+            NOTHING
+        }
     }
 }
 
-// Performs the event of a turn, and keeps the reply beside it.
+// The same for a stick that is handed over, and handed back.
+pub fn perform<M: Medium>(mut stick: Running<M>, event: &mut Event) -> (Running<M>, Reply)
+    ensures bound { count_of result.1 ≤ length (buffer_of event.new) }
+    ensures kept { unhanded (event_of event.new) ≡ unhanded (event_of event.old) }
+    ensures step { stepped (reply_of result.1 (buffer_of event.new)) (stick_of M.meaning result.0) ≡ step stick.layout (stick_of M.meaning stick) (event_of event.old) }
+    ensures layout { result.0.layout ≡ stick.layout }
+{
+    let reply = perform_on(&mut stick, event);
+    (stick, reply)
+}
+
+// Performs the event of a turn on a stick where it stands, and keeps the reply beside the event.
+pub fn take_turn_on<M: Medium>(stick: &mut Running<M>, turn: &mut Turn)
+    ensures kept { unhanded (event_in turn.new) ≡ unhanded (event_in turn.old) }
+    ensures step { stepped (reply_in turn.new) (stick_of M.meaning stick.new) ≡ step stick.old.layout (stick_of M.meaning stick.old) (event_in turn.old) }
+    ensures layout { stick.new.layout ≡ stick.old.layout }
+{
+    turn.reply = perform_on(stick, &mut turn.event);
+}
+
+// The same for a stick that is handed over, and handed back.
 pub fn take_turn<M: Medium>(stick: Running<M>, turn: &mut Turn) -> Running<M>
     ensures kept { unhanded (event_in turn.new) ≡ unhanded (event_in turn.old) }
     ensures step { stepped (reply_in turn.new) (stick_of M.meaning result) ≡ step stick.layout (stick_of M.meaning stick) (event_in turn.old) }
@@ -96,7 +118,7 @@ pub fn run<M: Medium>(mut stick: Running<M>, turns: &mut Vec<Turn>) -> Running<M
     ensures layout { result.layout ≡ stick.layout }
 {
     for turn in turns.iter_mut() {
-        stick = take_turn(stick, turn);
+        take_turn_on(&mut stick, turn);
     }
     stick
 }

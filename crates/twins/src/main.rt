@@ -30,6 +30,16 @@ struct Script {
     lines: Vec<u64>,
 }
 
+impl Script {
+    // No line yet.
+    fn new(heap: Global) -> Script {
+        Script {
+            turns: Vec::new(heap),
+            lines: Vec::new(heap),
+        }
+    }
+}
+
 // All that one of the two sticks is given.
 #[derive(Drop)]
 struct Side<M> {
@@ -49,6 +59,15 @@ struct Inspected {
 }
 
 impl Inspected {
+    fn new(fit: Fit, memory: Vec<u8>, setup: Script, common: Script) -> Inspected {
+        Inspected {
+            fit,
+            memory,
+            setup,
+            common,
+        }
+    }
+
     // The side with a medium of this make.
     fn fitted<M: Fitted>(self) -> Side<M> {
         let Inspected {
@@ -75,67 +94,85 @@ fn with_line(heap: Global, mut script: Script, line: &[u8], number: u64) -> anyh
     Ok(script)
 }
 
-// A script's file, read whole: the common one is read once, so that both sticks run the same even if it is a pipe.
-#[derive(Drop)]
-struct Source<'a> {
-    path: &'a str,
-    bytes: Vec<u8>,
+// A line of the common script goes to both sticks as it is read, so that they run the same even if the lines come from a pipe.
+fn with_common_line(
+    heap: Global,
+    scripts: (Script, Script),
+    line: &[u8],
+    number: u64,
+) -> anyhow::Result<(Script, Script)> {
+    let (first, second) = scripts;
+    let first = with_line(heap, first, line, number)?;
+    let second = with_line(heap, second, line, number)?;
+    Ok((first, second))
 }
 
-impl<'a> Source<'a> {
-    // The file, or none: that it cannot be read is told on standard error then.
-    fn read(rt: &HostRuntime, path: &'a str) -> anyhow::Result<Option<Source<'a>>> {
-        match fs::read(rt, path) {
-            Ok(bytes) => Ok(Some(Source { path, bytes })),
-            Err(error) => {
-                eprintln!(rt; "{path}: {error}")?;
-                Ok(None)
-            }
+// What the lines of a file make, or none: what is wrong with it is told on standard error then, and nothing more of it is read.
+fn read_lines<S: Drop, F: Fn(S, u64, &[u8]) -> anyhow::Result<S>>(
+    rt: &HostRuntime,
+    path: &str,
+    empty: S,
+    serve: F,
+) -> anyhow::Result<Option<S>>
+    requires { F.IsAlwaysCallable serve }
+{
+    match fs::open(rt, path) {
+        Ok(file) => {
+            let place = format!(in rt.alloc(); "{path}, ")?;
+            serve_lines(rt, file, place.as_str(), empty, serve)
+        }
+        Err(error) => {
+            eprintln!(rt; "{path}: {error}")?;
+            Ok(None)
         }
     }
-
-    // The script that it holds, or none: what is wrong with it is told on standard error then.
-    fn script(&self, rt: &HostRuntime) -> anyhow::Result<Option<Script>> {
-        let heap = rt.alloc();
-        let none = Script {
-            turns: Vec::new(heap),
-            lines: Vec::new(heap),
-        };
-        let place = format!(in heap; "{}, ", self.path)?;
-        serve_lines(
-            rt,
-            self.bytes.as_slice(),
-            place.as_str(),
-            none,
-            |script, number, line| { with_line(heap, script, line, number) },
-        )
-    }
 }
 
-// A stick on memory of its own, with the script that sets it up and the common one, or none.
+// The script in a file, or none.
+fn read_script(rt: &HostRuntime, path: &str) -> anyhow::Result<Option<Script>> {
+    let heap = rt.alloc();
+    read_lines(rt, path, Script::new(heap), |script, number, line| {
+        with_line(heap, script, line, number)
+    })
+}
+
+// The common script in a file, for each of the two sticks, or none.
+fn read_common(rt: &HostRuntime, path: &str) -> anyhow::Result<Option<(Script, Script)>> {
+    let heap = rt.alloc();
+    let empty = (Script::new(heap), Script::new(heap));
+    read_lines(rt, path, empty, |scripts, number, line| {
+        with_common_line(heap, scripts, line, number)
+    })
+}
+
+// Both sticks with their scripts, or none. Of several things that are wrong the first in this order is told: the first stick, its script, the
+// second's script, the common one, the second stick.
 fn prepared(
     rt: &HostRuntime,
-    stick: &str,
-    fit: Fit,
-    setup: &str,
-    common: &Source<'_>,
-) -> anyhow::Result<Option<Inspected>> {
-    let Some(memory) = inspected_memory(rt, stick, &fit)? else {
+    fits: (Fit, Fit),
+    paths: [&str; 3],
+) -> anyhow::Result<Option<(Inspected, Inspected)>> {
+    let (first, second) = fits;
+    let [first_path, second_path, common_path] = paths;
+    let Some(first_memory) = inspected_memory(rt, "first stick: ", &first)? else {
         return Ok(None);
     };
-    let Some(setup) = Source::read(rt, setup)? else {
+    let Some(first_setup) = read_script(rt, first_path)? else {
         return Ok(None);
     };
-    let Some(setup) = setup.script(rt)? else {
+    let Some(second_setup) = read_script(rt, second_path)? else {
         return Ok(None);
     };
-    let common = common.script(rt)?;
-    Ok(common.map(|common| Inspected {
-        fit,
-        memory,
-        setup,
-        common,
-    }))
+    let Some((first_common, second_common)) = read_common(rt, common_path)? else {
+        return Ok(None);
+    };
+    let Some(second_memory) = inspected_memory(rt, "second stick: ", &second)? else {
+        return Ok(None);
+    };
+    Ok(Some((
+        Inspected::new(first, first_memory, first_setup, first_common),
+        Inspected::new(second, second_memory, second_setup, second_common),
+    )))
 }
 
 // Prints the record of a stick, each line behind the stick's number.
@@ -242,16 +279,15 @@ fn run_twins(rt: &HostRuntime) -> anyhow::Result<bool> {
         eprintln!(rt; "{USAGE}")?;
         return Ok(false);
     };
-    let Some((first, second)) = chosen_fits(rt, rest)? else {
+    let Some(fits) = chosen_fits(rt, rest)? else {
         return Ok(false);
     };
-    let Some(common) = Source::read(rt, common_path.as_str())? else {
-        return Ok(false);
-    };
-    let Some(first) = prepared(rt, "first stick: ", first, first_path.as_str(), &common)? else {
-        return Ok(false);
-    };
-    let Some(second) = prepared(rt, "second stick: ", second, second_path.as_str(), &common)? else {
+    let paths = [
+        first_path.as_str(),
+        second_path.as_str(),
+        common_path.as_str(),
+    ];
+    let Some((first, second)) = prepared(rt, fits, paths)? else {
         return Ok(false);
     };
     match first.fit.make {

@@ -42,8 +42,8 @@ impl Rows {
     pub fn present(&mut self)
         ensures { self.new ≡ map presented self.old }
     {
-        for row in &mut self.rows {
-            row.present();
+        for shown in &mut self.rows {
+            shown.present();
         }
     }
 

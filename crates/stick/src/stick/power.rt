@@ -114,6 +114,17 @@ impl<M: Medium> Running<M> {
     {
         self.power_down().power_up()
     }
+
+    // The same for a stick that stays where it is, so that it need not be moved.
+    pub fn cycle_power(&mut self)
+        ensures stick { stick_of M.meaning self.new ≡ repowered self.old.layout (stick_of M.meaning self.old) }
+        ensures layout { self.new.layout ≡ self.old.layout }
+        ensures same { self.new.medium ≡ self.old.medium }
+    {
+        self.interfaces = interfaces_up(&self.layout, &self.units);
+        self.units.power_up();
+        self.phase = Phase::Present;
+    }
 }
 
 // Fits a stick and powers it up for the first time.

@@ -8,4 +8,4 @@ returns c =
     let bytes = c.args.bytes.now in
     let fits : IsBytes bytes = λ i. let f = c.type_inv.bytes i in omega arith in
     c.in_ok-extend_from_slice.ensures.items
-    ∙ ap (λ t. c.args.line.now.items ++ t) (c.as_bytes.ensures.value ∙ c.in_ok-encode_upper.ensures ∙ text_upper bytes fits)
+    ∙ ap (λ t. c.args.line.now.items ++ t) (c.as_bytes.ensures.value ∙ c.in_ok-text.ensures ∙ text_upper bytes fits)

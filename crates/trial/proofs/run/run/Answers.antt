@@ -13,10 +13,10 @@ loop-turn-preserved g c =
     let of = stick_of g.M.Medium.meaning in
     let lay = c.args.stick.layout in
     let same = c.loop-turn.invariant.1 in
-    let did = c.take_turn-stick.ensures.step ∙ ap (λ (l : Layout). step l (of c.loop-turn.stick) (event_in (get_or c.loop-turn.turn-items c.loop-turn.turn-index c.turn-item.result))) same in (
+    let did = c.take_turn_on.ensures.step ∙ ap (λ (l : Layout). step l (of c.loop-turn.stick) (event_in (get_or c.loop-turn.turn-items c.loop-turn.turn-index c.turn-item.result))) same in (
       far_more lay (of c.args.stick) c.deref_mut-turn-items.result.now (of c.loop-turn.stick) c.loop-turn.turn-items c.loop-turn.turn-index
-          c.turn-item.result c.take_turn-stick.new.turn (of c.take_turn-stick.result) (search rules) c.take_turn-stick.ensures.kept did c.loop-turn.invariant.0,
-      c.take_turn-stick.ensures.layout ∙ same,
+          c.turn-item.result c.take_turn_on.new.turn (of c.take_turn_on.new.stick) (search rules) c.take_turn_on.ensures.kept did c.loop-turn.invariant.0,
+      c.take_turn_on.ensures.layout ∙ same,
     )
 
 pub returns : goal.returns

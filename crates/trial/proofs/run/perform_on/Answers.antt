@@ -7,12 +7,12 @@ use Rattle.model.specs.Control.{Transferred, controlled}
 use Rattle.model.specs.Events.{after_bulk, after_control, step, stepped}
 use Rattle.stick.specs.Meaning.{stick_of}
 use Rattle.trial.specs.Turns.{count_of, reply_of}
-use Rattle.trial.proofs.run.perform.Goals as goal
+use Rattle.trial.proofs.run.perform_on.Goals as goal
 
 pub returns-in-Control : goal.returns-in-Control
 returns-in-Control g c =
     let of = stick_of g.M.Medium.meaning in
-    let lay = c.args.stick.layout in
+    let lay = c.args.stick.now.layout in
     let s = of c.control-result.new.self in
     let buf = c.control-result.new.buffer in
     let setup = c.as_slice.result.now in
@@ -26,16 +26,16 @@ returns-in-Control g c =
       step = ap (λ b. stepped (reply_of c.control_reply.result b) s) e
           ∙ c.control_reply.ensures.step buf s
           ∙ ap (λ (t : Transferred). after_control t) c.control-result.ensures.transfer
-          ∙ ap (λ x. after_control (controlled lay x handed (of c.args.stick))) setup_is
-          ∙ ap (λ x. after_control (controlled lay (vec_items c.in-Control.setup) x (of c.args.stick))) handed_is
-          ∙ ap (λ (x : Event). step lay (of c.args.stick) (event_of x)) (sym c.in-Control.is);
+          ∙ ap (λ x. after_control (controlled lay x handed (of c.args.stick.now))) setup_is
+          ∙ ap (λ x. after_control (controlled lay (vec_items c.in-Control.setup) x (of c.args.stick.now))) handed_is
+          ∙ ap (λ (x : Event). step lay (of c.args.stick.now) (event_of x)) (sym c.in-Control.is);
       layout = c.control-result.ensures.layout;
     }
 
 pub returns-in-Bulk : goal.returns-in-Bulk
 returns-in-Bulk g c =
     let of = stick_of g.M.Medium.meaning in
-    let lay = c.args.stick.layout in
+    let lay = c.args.stick.now.layout in
     let s = of c.bulk-result.new.self in
     let i = c.in-Bulk.interface in
     let buf = c.bulk-result.new.buffer in
@@ -50,8 +50,8 @@ returns-in-Bulk g c =
       step = ap (λ b. stepped (reply_of c.bulk_reply.result b) s) e
           ∙ c.bulk_reply.ensures.step buf s
           ∙ ap (λ (t : Bulked). after_bulk t) c.bulk-result.ensures.bulk
-          ∙ ap (λ x. after_bulk (bulked lay i x handed (of c.args.stick))) wrapper_is
-          ∙ ap (λ x. after_bulk (bulked lay i (vec_items c.in-Bulk.cbw) x (of c.args.stick))) handed_is
-          ∙ ap (λ (x : Event). step lay (of c.args.stick) (event_of x)) (sym c.in-Bulk.is);
+          ∙ ap (λ x. after_bulk (bulked lay i x handed (of c.args.stick.now))) wrapper_is
+          ∙ ap (λ x. after_bulk (bulked lay i (vec_items c.in-Bulk.cbw) x (of c.args.stick.now))) handed_is
+          ∙ ap (λ (x : Event). step lay (of c.args.stick.now) (event_of x)) (sym c.in-Bulk.is);
       layout = c.bulk-result.ensures.layout;
     }
