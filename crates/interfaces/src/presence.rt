@@ -49,10 +49,9 @@ impl Interfaces {
     {
         let mut cleared = FixedList::new();
         for interface in self.list.iter() {
-            cleared.push(Interface {
-                jammed: false,
-                ..*interface
-            });
+            let mut clear = *interface;
+            clear.jammed = false;
+            cleared.push(clear);
         }
         self.list = cleared;
     }

@@ -1,6 +1,6 @@
 -- Loops over rows.
-use Rattle.std.proofs.Common.{◌≡◌, ℕ, zero, suc, ◌+◌, ◌<◌, ◌&&◌, List, [], ◌∷◌, ◌++◌, map, length, get_or, take, drop, set, sym, refl, ap, ◌∙◌, subst, arith}
-use Rattle.std.proofs.lemmas.List.{map-set, get_or-map, length-map, length-set}
+use Rattle.std.proofs.Common.{◌≡◌, ℕ, zero, suc, ◌+◌, ◌<◌, ◌&&◌, true, ◌≤◌, List, [], ◌∷◌, ◌++◌, map, length, get_or, take, drop, set, sym, refl, ap, ◌∙◌, subst, arith}
+use Rattle.std.proofs.lemmas.List.{map-set, get_or-map, length-map, length-set, take_all, drop_all, append-nil}
 use Rattle.std.proofs.lemmas.List.Edits.{map_over_more}
 use Rattle.model.specs.Units.{UnitRecord}
 use Rattle.units.specs.declared.row.Row.{Row}
@@ -29,3 +29,21 @@ far_more f rows₀ rows i d r h er es far =
       sound = sound_kept rows i d r h es ∙ far.sound;
       count = length-set rows i r ∙ far.count;
     }
+
+pub far_all : (f : UnitRecord → UnitRecord) (rows₀ rows : List Row) (i : ℕ) → length rows₀ ≤ i → Far f rows₀ rows i → map record_of rows ≡ map f (map record_of rows₀)
+far_all f rows₀ rows i h far =
+    let us₀ = map record_of rows₀ in
+    let h₀ : length us₀ ≤ i = rw length-map h in
+    far.records ∙ ap (λ l. map f l ++ drop i us₀) (take_all i us₀ h₀) ∙ ap (λ l. map f us₀ ++ l) (drop_all i us₀ h₀) ∙ append-nil (map f us₀)
+
+-- the loop went over the whole table, and what it left is the table afterwards
+module _ (f : UnitRecord → UnitRecord) (table rows₀ rows after : List Row) (i : ℕ) (far : Far f rows₀ rows i) (whole : rows₀ ≡ table) (back : after ≡ rows) where
+  pub table_changed : length rows₀ ≤ i → map record_of after ≡ map f (map record_of table)
+  table_changed h = ap (map record_of) back ∙ far_all f rows₀ rows i h far ∙ ap (λ l. map f (map record_of l)) whole
+
+  pub table_sound : (length table ≡ 16) × (sound_rows table ≡ true) → (length after ≡ 16) × (sound_rows after ≡ true)
+  table_sound (full, sound) = (ap length back ∙ far.count ∙ ap length whole ∙ full, ap sound_rows back ∙ far.sound ∙ ap sound_rows whole ∙ sound)
+
+-- nothing lies behind the last one
+pub none_behind : {A : Type 0} (xs ys : List A) (n : ℕ) → length ys ≤ n → xs ++ drop n ys ≡ xs
+none_behind xs ys n h = ap (λ l. xs ++ l) (drop_all n ys h) ∙ append-nil xs
