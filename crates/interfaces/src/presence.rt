@@ -49,9 +49,9 @@ impl Interfaces {
     {
         let mut cleared = FixedList::new();
         for interface in self.list.iter() {
-            let mut clear = *interface;
-            clear.jammed = false;
-            cleared.push(clear);
+            let mut unjammed = *interface;
+            unjammed.jammed = false;
+            cleared.push(unjammed);
         }
         self.list = cleared;
     }

@@ -1,5 +1,5 @@
 -- Loops over rows.
-use Rattle.std.proofs.Common.{◌≡◌, ℕ, zero, suc, ◌+◌, ◌<◌, ◌&&◌, true, ◌≤◌, List, [], ◌∷◌, ◌++◌, map, length, get_or, take, drop, set, sym, refl, ap, ◌∙◌, subst, arith}
+use Rattle.std.proofs.Common.{◌≡◌, ℕ, zero, suc, ◌+◌, ◌<◌, ◌&&◌, ◌≤◌, List, [], ◌∷◌, ◌++◌, map, length, get_or, take, drop, set, sym, refl, ap, ◌∙◌, subst, arith}
 use Rattle.std.proofs.lemmas.List.{map-set, get_or-map, length-map, length-set, take_all, drop_all, append-nil}
 use Rattle.std.proofs.lemmas.List.Edits.{map_over_more}
 use Rattle.model.specs.Units.{UnitRecord}
@@ -41,8 +41,8 @@ module _ (f : UnitRecord → UnitRecord) (table rows₀ rows after : List Row) (
   pub table_changed : length rows₀ ≤ i → map record_of after ≡ map f (map record_of table)
   table_changed h = ap (map record_of) back ∙ far_all f rows₀ rows i h far ∙ ap (λ l. map f (map record_of l)) whole
 
-  pub table_sound : (length table ≡ 16) × (sound_rows table ≡ true) → (length after ≡ 16) × (sound_rows after ≡ true)
-  table_sound (full, sound) = (ap length back ∙ far.count ∙ ap length whole ∙ full, ap sound_rows back ∙ far.sound ∙ ap sound_rows whole ∙ sound)
+  pub table_kept : (length after ≡ length table) × (sound_rows after ≡ sound_rows table)
+  table_kept = (ap length back ∙ far.count ∙ ap length whole, ap sound_rows back ∙ far.sound ∙ ap sound_rows whole)
 
 -- nothing lies behind the last one
 pub none_behind : {A : Type 0} (xs ys : List A) (n : ℕ) → length ys ≤ n → xs ++ drop n ys ≡ xs
